@@ -7,7 +7,7 @@ use Rattle.int_linear.specs.Divisors.{IsPrimitive}
 use Rattle.int_linear.proofs.Ring.{products, mul_zero, zero_mul, zero_factor, pos_cancel, mul_pos}
 use Rattle.simplex_rows.specs.Steps.{IsStep, IsCleared, IsPivotRow}
 use Rattle.simplex_rows.specs.Tableau.{IsCombination, IsSpan, IsCanonical, IsCanonicalBut, IsTableau, IsExchange, IsBasisAfter, Meets}
-use Rattle.simplex_rows.proofs.Steps.{inner_step, inner_pivot, sign_cancel, combination_step, combination_pivot}
+use Rattle.simplex_rows.proofs.RowSteps.{inner_step, inner_pivot, sign_cancel, combination_step, combination_pivot}
 
 -- the pivot row is 0 where the leaving row is
 pub pivot_zero : (n enter : ℕ) (f g : ℕ → ℤ) → IsPivotRow n enter f g → (j : ℕ) → j < n → f j ≡ pos 0 → g j ≡ pos 0

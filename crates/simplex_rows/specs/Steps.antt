@@ -1,5 +1,5 @@
 -- What one row becomes in an exchange.
-use Rattle.std.specs.Prelude.{◌≡◌, ◌<◌, ℕ, ℤ, pos, ◌-ℤ◌, ◌*ℤ◌, ◌<ℤ◌, unsigned_abs}
+use Rattle.std.specs.Prelude.{◌≡◌, ◌≢◌, ◌<◌, ℕ, ℤ, pos, ◌-ℤ◌, ◌*ℤ◌, ◌<ℤ◌, unsigned_abs}
 use Rattle.int_linear.specs.Divisors.{IsPrimitive}
 
 -- k times the new row is a times the old one less b times the pivot row
@@ -26,3 +26,28 @@ pub record IsPivotRow (n enter : ℕ) (before pivot : ℕ → ℤ) : Type 0 wher
   pub each : (j : ℕ) → j < n → divisor *ℤ pivot j ≡ sign *ℤ before j
   pub positive : pos 0 <ℤ pivot enter
   pub primitive : IsPrimitive n pivot
+
+-- the row over a positive divisor of all its numbers, so that nothing but 1 divides them
+pub record IsPrimitivePart (n : ℕ) (before now : ℕ → ℤ) : Type 0 where
+  pub divisor : ℤ
+  pub divided : pos 0 <ℤ divisor
+  pub each : (j : ℕ) → j < n → divisor *ℤ now j ≡ before j
+  pub primitive : IsPrimitive n now
+
+-- each number is a times the old one less b times the pivot's
+pub record IsStepped (n : ℕ) (a b : ℤ) (before pivot now : ℕ → ℤ) : Type 0 where
+  pub each : (j : ℕ) → j < n → now j ≡ a *ℤ before j -ℤ b *ℤ pivot j
+
+-- divisor times each number is the old one
+pub record IsDivided (n : ℕ) (divisor : ℤ) (before now : ℕ → ℤ) : Type 0 where
+  pub each : (j : ℕ) → j < n → divisor *ℤ now j ≡ before j
+
+-- each number is the other row's, with this sign
+pub record IsCopy (n : ℕ) (sign : ℤ) (before now : ℕ → ℤ) : Type 0 where
+  pub each : (j : ℕ) → j < n → now j ≡ sign *ℤ before j
+
+-- some number of the row is not 0
+pub record HasEntry (n : ℕ) (row : ℕ → ℤ) : Type 0 where
+  pub column : ℕ
+  pub within : column < n
+  pub entry : row column ≢ pos 0
