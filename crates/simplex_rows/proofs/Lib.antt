@@ -6,3 +6,4 @@ pub mod Exchanges
 pub mod Dropped
 pub mod Feasible
 pub mod Narrow
+pub mod Factors

@@ -2,11 +2,12 @@
 
 ghost use Rattle.std.specs.Prelude.{◌≡◌, ◌≢◌, ◌≤◌, ◌<◌, ◌^◌, ℕ, pos, negsuc, ◌*ℤ◌, ◌-ℤ◌, ◌<ℤ◌, IsTrue, ◌↔◌, length, unsigned_abs, MatchOption, if◌then◌else◌};
 ghost use Rattle.int_linear.specs.Sums.{at};
-ghost use Rattle.int_linear.specs.Divisors.{IsRowGcd};
-ghost use Rattle.simplex_rows.specs.Steps.{IsStepped, IsDivided, IsCopy, IsPrimitivePart, IsCleared, HasEntry};
+ghost use Rattle.int_linear.specs.Divisors.{IsRowGcd, IsPrimitive};
+ghost use Rattle.simplex_rows.specs.Steps.{IsStepped, IsDivided, IsCopy, IsPrimitivePart, IsCleared, IsPivotRow, HasEntry, KeepsEntry};
+ghost use Rattle.simplex_rows.specs.Dropped.{without};
 ghost use Rattle.simplex_rows.specs.Width.{IsNarrowBy, IsFirstWideBy, IsNarrowStepOf, IsFirstWideStep, IsNarrowRow};
 
-use crate::steps::{has_step, is_narrow_step, step_entry};
+use crate::steps::{factors, has_step, is_narrow_step, is_negative, step_entry};
 use fractions::divisors::gcd_of_magnitudes;
 use fractions::exact_quotient;
 
@@ -82,4 +83,80 @@ pub(crate) fn copy_signed(entries: &mut [i128], from: &[i128], negate: bool)
     for j in 0..entries.len() {
         entries[j] = if negate { -from[j] } else { from[j] };
     }
+}
+
+/// Divides the row by its greatest common divisor.
+pub(crate) fn make_primitive(entries: &mut [i128])
+    requires some { HasEntry (length entries.old) (at entries.old) }
+    requires narrow { IsNarrowRow (at entries.old) }
+    ensures part { IsPrimitivePart (length entries.old) (at entries.old) (at entries.new) }
+    ensures narrow { IsNarrowRow (at entries.new) }
+{
+    let divisor = row_gcd(entries);
+    if divisor == 1 {
+        return;
+    }
+    divide_entries(entries, divisor as i128);
+}
+
+/// Clears a row with an entry in the entering column by the pivot row.
+pub(crate) fn clear_entries(entries: &mut [i128], pivot: &[i128], enter: usize)
+    requires within { enter < length entries.old }
+    requires same { length entries.old ≡ length pivot.now }
+    requires positive { pos 0 <ℤ at pivot.now enter }
+    requires narrow { IsNarrowStepOf (length entries.old) enter (at entries.old) (at pivot.now) }
+    requires kept { KeepsEntry (length entries.old) (at entries.old) (at pivot.now) }
+    ensures cleared { IsCleared (length entries.old) enter (at entries.old) (at pivot.now) (at entries.new) }
+    ensures narrow { IsNarrowRow (at entries.new) }
+{
+    let (a, b) = factors(pivot[enter], entries[enter]);
+    step_entries(a, b, entries, pivot);
+    make_primitive(entries);
+}
+
+/// None where the row can be cleared of the entering column with narrow steps, or the first column where not.
+pub(crate) fn first_wide(entries: &[i128], pivot: &[i128], enter: usize) -> Option<usize>
+    requires within { enter < length entries.now }
+    requires same { length entries.now ≡ length pivot.now }
+    requires positive { pos 0 <ℤ at pivot.now enter }
+    requires narrow { IsNarrowRow (at entries.now) }
+    ensures { MatchOption result (IsNarrowStepOf (length entries.now) enter (at entries.now) (at pivot.now)) (IsFirstWideStep (length entries.now) enter (at entries.now) (at pivot.now)) }
+{
+    if entries[enter] == 0 {
+        return None;
+    }
+    let (a, b) = factors(pivot[enter], entries[enter]);
+    first_wide_by(a, b, entries, pivot)
+}
+
+/// Writes the pivot row that the leaving row gives: its entries in the sign that makes the one in the entering
+/// column positive.
+pub(crate) fn write_pivot(entries: &mut [i128], from: &[i128], enter: usize)
+    requires within { enter < length from.now }
+    requires same { length entries.old ≡ length from.now }
+    requires narrow { IsNarrowRow (at from.now) }
+    requires entry { at from.now enter ≢ pos 0 }
+    requires primitive { IsPrimitive (length from.now) (at from.now) }
+    ensures pivot { IsPivotRow (length from.now) enter (at from.now) (at entries.new) }
+    ensures narrow { IsNarrowRow (at entries.new) }
+{
+    let negate = is_negative(from[enter]);
+    copy_signed(entries, from, negate);
+}
+
+/// The same, where the leaving row's own column drops out and counts as 0.
+pub(crate) fn write_dropped_pivot(entries: &mut [i128], from: &[i128], enter: usize, column: usize)
+    requires within { enter < length from.now }
+    requires column { column < length from.now }
+    requires other { enter ≢ column }
+    requires same { length entries.old ≡ length from.now }
+    requires narrow { IsNarrowRow (at from.now) }
+    requires entry { at from.now enter ≢ pos 0 }
+    ensures pivot { IsPivotRow (length from.now) enter (without column (at from.now)) (at entries.new) }
+    ensures narrow { IsNarrowRow (at entries.new) }
+{
+    let negate = is_negative(from[enter]);
+    copy_signed(entries, from, negate);
+    entries[column] = 0;
+    make_primitive(entries);
 }

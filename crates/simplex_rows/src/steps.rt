@@ -1,6 +1,6 @@
 //! The arithmetic of one entry.
 
-ghost use Rattle.std.specs.Prelude.{◌≡◌, false, pos, ◌*ℤ◌, ◌-ℤ◌, ◌<ℤ◌, SomeIff, IsTrue, ◌↔◌};
+ghost use Rattle.std.specs.Prelude.{◌≡◌, false, pos, ◌*ℤ◌, ◌-ℤ◌, ◌<ℤ◌, ◌≤ℤ◌, MatchBool, SomeIff, IsTrue, ◌↔◌};
 ghost use Rattle.fractions.specs.Width.{IsNarrow};
 ghost use Rattle.simplex_rows.specs.Width.{IsFactors, IsNarrowStep};
 
@@ -60,6 +60,13 @@ pub(crate) fn step_entry(a: i128, b: i128, entry: i128, pivot: i128) -> i128
     ensures { result ≡ a *ℤ entry -ℤ b *ℤ pivot }
 {
     a * entry - b * pivot
+}
+
+/// Whether the number is negative.
+pub(crate) fn is_negative(z: i128) -> bool
+    ensures { MatchBool result (z <ℤ pos 0) (pos 0 ≤ℤ z) }
+{
+    z < 0
 }
 
 /// `p` and `f` over their greatest common divisor.
