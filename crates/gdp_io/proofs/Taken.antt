@@ -1,7 +1,7 @@
 -- The bytes that were read so far, and what one more read does to them.
-use Rattle.std.proofs.Common.{◌≡◌, ℕ, ◌+◌, ◌<◌, ◌≤◌, List, [], ◌++◌, length, drop, take, Option, Some, arith, append_assoc, length-append, sym, ap, ◌∙◌, subst}
+use Rattle.std.proofs.Common.{◌≡◌, ℕ, ◌+◌, ◌<◌, List, ◌++◌, length, drop, Some, arith, append_assoc, length-append, sym, ap, ◌∙◌, subst}
 use Rattle.std.proofs.lemmas.List.{append-nil, drop_all}
-use Rattle.gdp_io.specs.Shelf.{Contents, Places, SameContents, Reads, Gives, IsBehind, IsPast}
+use Rattle.gdp_io.specs.Shelf.{Contents, Places, SameContents, Reads, IsBehind, IsPast}
 
 -- the text is what the contents begin with, and the place stands behind it
 abbrev pub SoFar : Contents → Places → List ℕ → List ℕ → Type 0

@@ -10,12 +10,20 @@
 //! bytes that are read and `names.rt` a name.
 #![tactic(auto)]
 
+mod calls;
+mod folders;
+mod host;
+mod memory;
 mod names;
 mod shelves;
 mod sinks;
+mod sure;
 mod texts;
 
+pub use host::{FileShelf, OutSink};
+pub use memory::{MemShelf, MemSink};
 pub use names::Name;
 pub use shelves::{Failed, ReadAllError, Shelf, read_all};
 pub use sinks::{Sink, WriteFault, write_all};
+pub use sure::{SureShelf, SureSink};
 pub use texts::Text;

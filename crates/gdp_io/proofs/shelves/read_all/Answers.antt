@@ -1,4 +1,4 @@
-use Rattle.std.proofs.Common.{rules, arith, ◌≡◌, ◌+◌, ◌≤◌, ◌++◌, length, take, refl, ap, subst, sym, ◌∙◌}
+use Rattle.std.proofs.Common.{rules, arith, ◌≡◌, ◌≤◌, ◌++◌, length, take, ap, subst, sym}
 use Rattle.std.proofs.lemmas.List.{length-take, take-append-le, length-take-le, length-append}
 use Rattle.gdp_io.proofs.Taken.{SoFar, goes_on, ends, past}
 use Rattle.gdp_io.proofs.shelves.read_all.Goals as goal
