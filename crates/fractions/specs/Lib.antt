@@ -1,2 +1,4 @@
+pub mod Divisors
+pub mod Fraction
 pub mod Memory
 pub mod Width
