@@ -5,8 +5,8 @@ use Rattle.std.specs.Int.{IsGcd, ◌∣◌}
 use Rattle.std.proofs.Math.Nat.{pos_of_dvd_of_pos, dvd_of_mul-dvd-mul_right, mul-dvd-mul_right, one-dvd, dvd-mul_left}
 use Rattle.std.proofs.lemmas.Nat.Gcd.{le_of_dvd, dvd_antisymm}
 use Rattle.std.proofs.lemmas.Int.{ints, unsigned_abs-mul}
-use Rattle.int_linear.proofs.Ring.{products, pos_cancel, mul_cancel}
-use Rattle.fractions.specs.Fraction.{IsLowest, IsReduced}
+use Rattle.int_linear.proofs.Ring.{products, pos_cancel, mul_cancel, neg_mul}
+use Rattle.fractions.specs.Fraction.{Fraction, IsLowest, IsReduced}
 use Rattle.fractions.proofs.Scaled.{scaled_gcd}
 
 pub size_positive : (a : ℤ) → a ≢ pos 0 → 0 < unsigned_abs a
@@ -73,3 +73,24 @@ lowest_same p q r s left right e =
     let dens : q ≡ s = same_size q s left.positive right.positive (dvd_antisymm (lowest_divides p q r s left.coprime e) (lowest_divides r s p q right.coprime (sym e))) in
     let nums : q *ℤ p ≡ q *ℤ r = (let z : p *ℤ q ≡ r *ℤ q = subst (λ n. p *ℤ n ≡ r *ℤ q) (sym dens) e in simp products (omega (arith, ints))) in
     (mul_cancel q p r left.positive nums, dens)
+
+-- a factor other than 0 can be taken away
+factor_cancel : (k a b : ℤ) → k ≢ pos 0 → k *ℤ a ≡ k *ℤ b → a ≡ b
+factor_cancel (pos zero) a b h e = absurd (h refl)
+factor_cancel (pos (suc n)) a b h e = mul_cancel (pos (suc n)) a b (omega (arith, ints)) e
+factor_cancel (negsuc n) a b h e =
+    let k : pos (suc n) ≡ neg_ℤ (negsuc n) = refl in
+    let turned : pos (suc n) *ℤ a ≡ pos (suc n) *ℤ b = (let z : neg_ℤ (negsuc n) *ℤ a ≡ neg_ℤ (negsuc n) *ℤ b = rw (neg_mul (negsuc n) a, neg_mul (negsuc n) b, e) in z) in
+    mul_cancel (pos (suc n)) a b (omega (arith, ints)) turned
+
+-- a quotient has one form in lowest terms
+pub reduced_same : (num den : ℤ) (f g : Fraction) → IsReduced num den f → IsReduced num den g → f ≡ g
+reduced_same num den f g left right =
+    let l = left.same in
+    let r = right.same in
+    let scaled : den *ℤ (f.num *ℤ g.den) ≡ den *ℤ (g.num *ℤ f.den) = (
+    let x = simp products at (ap (λ z. g.den *ℤ z) l) in
+    let y = simp products at (ap (λ z. f.den *ℤ z) r) in
+    simp products (omega (arith, ints))) in
+    let same = lowest_same f.num f.den g.num g.den left.lowest right.lowest (factor_cancel den (f.num *ℤ g.den) (g.num *ℤ f.den) left.divisible scaled) in
+    (λ i. record { num = same.0 i; den = same.1 i })

@@ -78,13 +78,13 @@ impl Frac {
         let Some(right) = other.num.checked_mul(self.den) else {
             return Err(Wide);
         };
-        let Some(den) = self.den.checked_mul(other.den) else {
+        let Some(below) = self.den.checked_mul(other.den) else {
             return Err(Wide);
         };
-        let Some(num) = left.checked_add(right) else {
+        let Some(sum) = left.checked_add(right) else {
             return Err(Wide);
         };
-        Ok(Frac::reduced(num, den))
+        Ok(Frac::reduced(sum, below))
     }
 
     /// The product, or `Wide` where the product of the numerators or of the denominators is.
@@ -112,8 +112,9 @@ impl Frac {
     pub fn ceil(&self) -> i128
         ensures { IsCeiling self.now result }
     {
-        let floor = self.num.div_euclid(self.den);
-        if self.num.rem_euclid(self.den) == 0 {
+        let (num, den) = (self.num, self.den);
+        let floor = num.div_euclid(den);
+        if num.rem_euclid(den) == 0 {
             floor
         } else {
             floor + 1
@@ -125,10 +126,10 @@ impl Frac {
         requires { pos 0 <ℤ den }
         ensures { IsReduced num den result }
     {
-        let divisor = divisor_of_both(den, num);
+        let common = divisor_of_both(den, num);
         Frac {
-            num: exact_quotient(num, divisor),
-            den: exact_quotient(den, divisor),
+            num: exact_quotient(num, common),
+            den: exact_quotient(den, common),
         }
     }
 }

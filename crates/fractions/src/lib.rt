@@ -7,6 +7,7 @@
 
 pub mod divisors;
 pub mod frac;
+pub mod laws;
 pub mod memory;
 pub mod quotients;
 pub mod sums;
@@ -14,7 +15,11 @@ pub mod wide;
 
 pub use divisors::{divisor_of_both, exact_quotient, gcd, lcm};
 pub use frac::Frac;
+pub use laws::one_lowest_form;
 pub use memory::Memory;
 pub use quotients::compare_quotients;
 pub use sums::add_product;
 pub use wide::Wide;
+
+#[cfg(test)]
+mod tests;
