@@ -4,7 +4,8 @@ use Rattle.std.proofs.lemmas.Int.{ints, by_lt_z, unsigned_abs-mul}
 use Rattle.std.proofs.lemmas.Bool.{cases_lt, cases_eq}
 use Rattle.std.proofs.lemmas.List.{get_or_past, get_or-set_same, get_or-set_other}
 use Rattle.std.proofs.lemmas.Nat.Gcd.{same_from_IsGcd, dvd_refl, dvd-zero, le_of_dvd, dvd_trans}
-use Rattle.std.proofs.Math.Nat.{eq-zero_of_zero-dvd, mul-le-mul_right, one-mul}
+use Rattle.std.proofs.Math.Nat.{eq-zero_of_zero-dvd, mul-le-mul_left, mul-le-mul_right, one-mul}
+use Rattle.std.proofs.lemmas.Nat.{mul-lt}
 use Rattle.std.specs.Int.{◌∣◌, IsGcd}
 use Rattle.std.specs.Prelude.{unsigned_abs}
 use lib.IntN.{*ℤ_comm}
@@ -242,3 +243,33 @@ cut_entry n enter column s row copied l m d len p c = record {
         let f : s *ℤ without column row enter ≡ s *ℤ row enter = ap (λ k. s *ℤ k) (without_else column row enter d) in
         omega (arith, ints);
 }
+
+-- rows of numbers below 2 ^ 62 have narrow steps
+pub small_narrow : (n enter : ℕ) (row pivot : ℕ → ℤ) → pos 0 <ℤ pivot enter → ((j : ℕ) → unsigned_abs (row j) < 2 ^ 62) → ((j : ℕ) → unsigned_abs (pivot j) < 2 ^ 62) → IsNarrowStepOf n enter row pivot
+small_narrow n enter row pivot h small pivot_small = record { each = λ a b x. record { each = λ j l.
+    let below_a : unsigned_abs a < 2 ^ 62 = part a x.divisor (pivot enter) x.positive x.first (pivot_small enter) in
+    let below_b : unsigned_abs b < 2 ^ 62 = part b x.divisor (row enter) x.positive x.second (small enter) in
+    let left : unsigned_abs (a *ℤ row j) < 2 ^ 124 = product a (row j) below_a (small j) in
+    let right : unsigned_abs (b *ℤ pivot j) < 2 ^ 124 = product b (pivot j) below_b (pivot_small j) in
+    record {
+        product = omega arith;
+        pivot_product = omega arith;
+        difference = difference_below (a *ℤ row j) (b *ℤ pivot j) left right;
+    } } }
+  where
+    positive_abs : (d : ℤ) → pos 0 <ℤ d → 1 ≤ unsigned_abs d
+    positive_abs (pos n) q = omega (arith, ints)
+    positive_abs (negsuc n) q = absurd (omega (arith, ints))
+    part : (a d p : ℤ) → pos 0 <ℤ d → a *ℤ d ≡ p → unsigned_abs p < 2 ^ 62 → unsigned_abs a < 2 ^ 62
+    part a d p q e s =
+        let size : unsigned_abs a * unsigned_abs d ≡ unsigned_abs p = sym (unsigned_abs-mul a d) ∙ ap unsigned_abs e in
+        let one : 1 ≤ unsigned_abs d = positive_abs d q in
+        let more : unsigned_abs a * 1 ≤ unsigned_abs a * unsigned_abs d = mul-le-mul_left (unsigned_abs a) one in
+        omega arith
+    product : (a t : ℤ) → unsigned_abs a < 2 ^ 62 → unsigned_abs t < 2 ^ 62 → unsigned_abs (a *ℤ t) < 2 ^ 124
+    product a t p q = subst (λ z. z < 2 ^ 124) (sym (unsigned_abs-mul a t)) (mul-lt (unsigned_abs a) (unsigned_abs t) (2 ^ 62) (2 ^ 62) p q)
+    difference_below : (x y : ℤ) → unsigned_abs x < 2 ^ 124 → unsigned_abs y < 2 ^ 124 → unsigned_abs (x -ℤ y) < 2 ^ 127
+    difference_below (pos x) (pos y) p q = omega (arith, ints)
+    difference_below (pos x) (negsuc y) p q = omega (arith, ints)
+    difference_below (negsuc x) (pos y) p q = omega (arith, ints)
+    difference_below (negsuc x) (negsuc y) p q = omega (arith, ints)
