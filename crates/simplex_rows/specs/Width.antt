@@ -1,8 +1,7 @@
 -- Which steps of an exchange stay narrow: in 128 bits, and not the least number there.
-use Rattle.std.specs.Prelude.{◌≡◌, ◌≢◌, ◌<◌, ◌^◌, ℕ, ℤ, pos, ◌-ℤ◌, ◌*ℤ◌, ◌<ℤ◌, unsigned_abs, List, Bool, true}
+use Rattle.std.specs.Prelude.{◌≡◌, ◌≢◌, ◌<◌, ◌^◌, ℕ, ℤ, pos, ◌-ℤ◌, ◌*ℤ◌, ◌<ℤ◌, unsigned_abs, Bool, true}
 use Rattle.std.specs.Int.{IsGcd}
 use Rattle.fractions.specs.Width.{IsNarrow}
-use Rattle.int_linear.specs.Sums.{at}
 
 -- p and f over their greatest common divisor, p being positive
 pub record IsFactors (p f a b : ℤ) : Type 0 where

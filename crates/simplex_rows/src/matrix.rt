@@ -8,7 +8,12 @@ use crate::row::Row;
 
 /// None where each row but `skip` can be cleared of the entering column with narrow steps, or else the row and the
 /// column of the first step that isn't narrow. It changes nothing.
-pub fn first_wide_entry(rows: &[Row], pivot: &Row, enter: usize, skip: usize) -> Option<(usize, usize)>
+pub fn first_wide_entry(
+    rows: &[Row],
+    pivot: &Row,
+    enter: usize,
+    skip: usize,
+) -> Option<(usize, usize)>
     requires shape { IsRectangle (length pivot.now) rows.now }
     requires within { enter < length pivot.now }
     requires positive { pos 0 <ℤ at pivot.now enter }
