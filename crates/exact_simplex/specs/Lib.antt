@@ -1,0 +1,4 @@
+pub mod Bland
+pub mod Choice
+pub mod Exchange
+pub mod Table

@@ -1,0 +1,6 @@
+//! The exact simplex.
+#![tactic(auto)]
+
+pub mod moves;
+
+pub use moves::Move;
