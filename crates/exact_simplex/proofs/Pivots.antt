@@ -4,10 +4,14 @@ use Rattle.std.proofs.lemmas.Int.{ints, by_lt_z}
 use Rattle.std.specs.Prelude.{unsigned_abs}
 use Rattle.fractions.specs.Width.{IsNarrow}
 use Rattle.int_linear.proofs.Ring.{products, mul_cancel, mul_pos, one_mul, neg_mul, mul_zero}
-use Rattle.int_linear.proofs.Divisors.{primitive_same_int}
-use Rattle.simplex_rows.specs.Steps.{IsPivotRow}
+use Rattle.int_linear.proofs.Divisors.{primitive_same_int, primitive_agrees}
+use Rattle.simplex_rows.specs.Dropped.{without}
+use Rattle.simplex_rows.proofs.Dropped.{without_zero}
+use Rattle.simplex_rows.specs.Steps.{IsPivotRow, IsCleared}
+use Rattle.simplex_rows.specs.Tableau.{IsExchange}
+use Rattle.exact_simplex.specs.Exchange.{kept}
 use Rattle.simplex_rows.specs.Width.{IsFactors, IsNarrowStep, IsNarrowBy, IsNarrowStepOf, IsFirstWideBy, IsFirstWideStep}
-use Rattle.simplex_rows.specs.Matrix.{AreNarrow, IsFirstWide}
+use Rattle.simplex_rows.specs.Matrix.{AreNarrow, IsFirstWide, AreKept, AreCleared}
 
 -- a sign is 1 or -1
 pub sign_cases : (s : ℤ) → unsigned_abs s ≡ 1 → (s ≡ pos 1) ⊎ (s ≡ negsuc 0)
@@ -98,3 +102,73 @@ module _ (n enter skip : ℕ) (pivot : ℕ → ℤ) (f g : ℕ → ℕ → ℤ) 
       before = narrow_rows row (λ i l d. let w = h.within in same i (omega arith) d) h.before;
       wide = wide_row n enter pivot (f row) (g row) (same row h.within h.other) column h.wide;
   }
+
+-- rows that stay as they are where they are 0 in the column that drops out
+pub kept_else : (drops : Bool) (column : ℕ) (rows : ℕ → ℕ → ℤ) (i j : ℕ) → (drops ≡ true → rows i column ≡ pos 0) → kept drops column rows i j ≡ rows i j
+kept_else true column rows i j h = without_zero column (rows i) j (h refl)
+kept_else false column rows i j h = refl
+
+-- a cleared row of an equal row
+pub cleared_row : (n enter : ℕ) (pivot f g now : ℕ → ℤ) → ((j : ℕ) → f j ≡ g j) → IsCleared n enter f pivot now → IsCleared n enter g pivot now
+cleared_row n enter pivot f g now same c = record {
+    divisor = c.divisor;
+    factor = c.factor;
+    pivot_factor = c.pivot_factor;
+    step = record {
+        divided = c.step.divided;
+        kept = c.step.kept;
+        each = λ j l. c.step.each j l ∙ ap (λ z. c.factor *ℤ z -ℤ c.pivot_factor *ℤ pivot j) (same j);
+    };
+    cleared = c.cleared;
+    primitive = c.primitive;
+}
+
+-- what is kept of equal rows
+pub kept_rows : (n r skip : ℕ) (pivot : ℕ → ℤ) (f g : ℕ → ℕ → ℤ) → ((i : ℕ) → i < r → i ≢ skip → (j : ℕ) → f i j ≡ g i j) → AreKept n r skip f pivot → AreKept n r skip g pivot
+kept_rows n r skip pivot f g same h = record {
+    entry = λ i l d.
+        let k = h.entry i l d in
+        record { column = k.column; within = k.within; entry = λ z. k.entry (same i l d k.column ∙ z); pivot_entry = k.pivot_entry };
+    primitive = λ i l d. primitive_agrees n (f i) (g i) (λ j q. sym (same i l d j)) (h.primitive i l d);
+}
+
+-- the exchange that clearing and putting in the pivot row make
+pub exchange_by : (n r skip enter : ℕ) (drops : Bool) (column : ℕ) (rows : ℕ → ℕ → ℤ) (pivot : ℕ → ℤ) (cleared now : ℕ → ℕ → ℤ) → skip < r → enter < n
+  → ((i : ℕ) → i < r → i ≢ skip → (j : ℕ) → kept drops column rows i j ≡ rows i j)
+  → IsPivotRow n enter (kept drops column rows skip) pivot → AreCleared n r enter skip rows pivot cleared
+  → ((j : ℕ) → now skip j ≡ pivot j) → ((i : ℕ) → i ≢ skip → (j : ℕ) → now i j ≡ cleared i j)
+  → IsExchange n r (kept drops column rows) skip enter now
+exchange_by n r skip enter drops column rows pivot cleared now l w same p c here there = record {
+    row_within = l;
+    column_within = w;
+    pivot = record {
+        divisor = p.divisor;
+        sign = p.sign;
+        divided = p.divided;
+        signed = p.signed;
+        each = λ j q. ap (λ z. p.divisor *ℤ z) (here j) ∙ p.each j q;
+        positive = subst (λ z. pos 0 <ℤ z) (sym (here enter)) p.positive;
+        primitive = primitive_agrees n pivot (now skip) (λ j q. here j) p.primitive;
+    };
+    others = λ i q d.
+        let x = c.each i q d in
+        record {
+            divisor = x.divisor;
+            factor = x.factor;
+            pivot_factor = x.pivot_factor;
+            step = record {
+                divided = x.step.divided;
+                kept = x.step.kept;
+                each = λ j b.
+                    ap (λ z. x.divisor *ℤ z) (there i d j) ∙ x.step.each j b
+                    ∙ ap (λ z. x.factor *ℤ z -ℤ x.pivot_factor *ℤ pivot j) (sym (same i q d j))
+                    ∙ ap (λ z. x.factor *ℤ kept drops column rows i j -ℤ x.pivot_factor *ℤ z) (sym (here j));
+            };
+            cleared = there i d enter ∙ x.cleared;
+            primitive = primitive_agrees n (cleared i) (now i) (λ j b. there i d j) x.primitive;
+        };
+}
+
+pub kept_at : (drops : Bool) (column : ℕ) (rows : ℕ → ℕ → ℤ) (i : ℕ) → kept drops column rows i ≡ cond drops (without column (rows i)) (rows i)
+kept_at true column rows i = refl
+kept_at false column rows i = refl

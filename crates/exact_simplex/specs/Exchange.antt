@@ -43,3 +43,7 @@ IsNarrowMove t enter leave = IsNarrowExchange (width t) (t.height + 1) (counted 
 -- the first number of the exchange that is not narrow is at this row and column
 abbrev pub IsWideMove : Table → ℕ → ℕ → ℕ → ℕ → Type 0
 IsWideMove t enter leave row column = IsWideExchange (width t) (t.height + 1) (counted t leave) enter (row_of t leave) row column
+
+-- the other rows are 0 in a column
+pub record IsZeroElsewhere (r column skip : ℕ) (rows : ℕ → ℕ → ℤ) : Type 0 where
+  pub each : (i : ℕ) → i < r → i ≢ skip → rows i column ≡ pos 0

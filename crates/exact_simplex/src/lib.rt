@@ -1,6 +1,7 @@
 //! The exact simplex.
 #![tactic(auto)]
 
+mod exchange;
 pub mod moves;
 
 pub use moves::Move;
