@@ -1,2 +1,6 @@
 pub mod Choices
 pub mod Pivots
+pub mod Tests
+pub mod Ratios
+pub mod Named
+pub mod Sound
