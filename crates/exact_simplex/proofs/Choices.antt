@@ -125,3 +125,7 @@ best_some (suc n) passes goes_before i o e = go (best_below n passes goes_before
         choose : (b : Bool) → goes_before n m ≡ b → cond b (Some n) (Some m) ≡ Some i → IsBest (suc n) passes goes_before i
         choose true x q = let same : n ≡ i = cc in subst (λ z. IsBest (suc n) passes goes_before z) same (newly m (rec m er) eb x)
         choose false x q = let same : m ≡ i = cc in subst (λ z. IsBest (suc n) passes goes_before z) same (still m (rec m er) (λ p. x))
+
+-- no place below n passes
+pub record NonePass (n : ℕ) (passes : ℕ → Bool) : Type 0 where
+  pub each : (k : ℕ) → k < n → passes k ≡ false
