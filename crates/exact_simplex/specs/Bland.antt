@@ -46,10 +46,14 @@ goes_before t enter i k = by_ratio (int_cmp (right_side t i *ℤ entry t k enter
 abbrev pub leaving_row : Table → ℕ → Option ℕ
 leaving_row t enter = best_below t.height (λ i. int_lt (pos 0) (entry t i enter)) (goes_before t enter)
 
+-- this column enters, and the basic column of this row leaves
+abbrev pub basic_move : Table → ℕ → ℕ → Move
+basic_move t enter row = Exchange enter (basic t row)
+
 -- the column enters, and the basic column of the row that the ratios name leaves
 abbrev pub leaving_move : Table → ℕ → Option ℕ → Move
 leaving_move t enter None = Unbounded enter
-leaving_move t enter (Some row) = Exchange enter (basic t row)
+leaving_move t enter (Some row) = basic_move t enter row
 
 -- the least improving column enters
 abbrev pub entering_move : Table → Option ℕ → Move
@@ -69,7 +73,7 @@ driven_move t false = entering_move t (entering_column t)
 -- the move: the artificial enters where some right side is negative
 abbrev pub first_move : Table → Option ℕ → Move
 first_move t None = driven_move t (is_spent t)
-first_move t (Some row) = Exchange (artificial t) (basic t row)
+first_move t (Some row) = basic_move t (artificial t) row
 
 -- Bland's move
 abbrev pub bland_move : Table → Move

@@ -4,6 +4,8 @@ use Rattle.simplex_rows.specs.Dropped.{all_without}
 use Rattle.simplex_rows.specs.Matrix.{AreNarrow, IsFirstWide, AreKept}
 use Rattle.simplex_rows.specs.Steps.{IsPivotRow}
 use Rattle.simplex_rows.specs.Tableau.{IsExchange}
+use Rattle.lp_rows.specs.declared.columns.WideAt.{WideAt}
+use Rattle.lp_rows.specs.declared.columns.WideAt.TheVariants.{Entry}
 use Rattle.exact_simplex.specs.Table.{Table, width, artificial, entry}
 use Rattle.exact_simplex.specs.Bland.{row_of}
 
@@ -47,3 +49,8 @@ IsWideMove t enter leave row column = IsWideExchange (width t) (t.height + 1) (c
 -- the other rows are 0 in a column
 pub record IsZeroElsewhere (r column skip : ℕ) (rows : ℕ → ℕ → ℤ) : Type 0 where
   pub each : (i : ℕ) → i < r → i ≢ skip → rows i column ≡ pos 0
+
+-- the place names that number, as one of an exchange
+abbrev pub IsWideAtEntry : Table → ℕ → ℕ → WideAt → Type 0
+IsWideAtEntry t enter leave (Entry row column) = IsWideMove t enter leave row column
+IsWideAtEntry t enter leave _ = ⊥

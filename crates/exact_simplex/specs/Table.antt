@@ -70,3 +70,8 @@ pub record IsSound (t : Table) : Type 0 where
   pub goal : basic t t.height ≡ scale t
   pub real : (i : ℕ) → i < t.height → basic t i < right t
   pub start : (k : ℕ) → k < t.height → right_side t k <ℤ pos 0 → IsFresh t
+
+-- the same, with a spare row of the tableau's width
+pub record IsSoundWith (t : Table) (spare : List ℤ) : Type 0 where
+  pub sound : IsSound t
+  pub spare : length spare ≡ width t

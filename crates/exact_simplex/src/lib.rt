@@ -4,5 +4,7 @@
 mod choosing;
 mod exchange;
 pub mod moves;
+pub mod tableau;
 
 pub use moves::Move;
+pub use tableau::Tableau;
