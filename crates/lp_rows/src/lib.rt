@@ -12,8 +12,13 @@ pub mod lists;
 pub mod points;
 pub mod rows;
 
-pub use holding::{row_holds, sum_at};
+pub use holding::{are_ids_below, row_holds, sum_at};
 pub use kinds::{Kind, Rel, Sense};
 pub use lists::{Flags, Nums, Terms};
 pub use points::{Point, PointError};
-pub use rows::{Row, RowError, is_storable};
+pub use rows::{
+    Row, RowError, are_coefficients_storable, do_ids_ascend, has_zero_coefficient, is_storable,
+};
+
+#[cfg(test)]
+mod tests;
