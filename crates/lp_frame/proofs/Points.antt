@@ -1,5 +1,6 @@
 -- Force and standard form have the same points and the same goal.
 use Rattle.std.proofs.Common.{◌≡◌, ◌<◌, ◌≤◌, ◌+◌, ℕ, Bool, true, ◌&&◌, List, [], ◌∷◌, length, map, ℤ, pos, ◌+ℤ◌, ◌*ℤ◌, ◌≤ℤ◌, nat_le, All, arith, refl, ap, sym, ◌∙◌, subst}
+use Rattle.std.proofs.lemmas.List.{length-map}
 use Rattle.std.proofs.lemmas.List.Elements.{All-nil, All-cons, All-head, All-tail}
 use Rattle.std.specs.List.{list_all}
 use Rattle.int_linear.specs.Sums.{at}
@@ -11,7 +12,7 @@ use Rattle.lp_rows.specs.declared.columns.Sign.TheVariants.{Nonneg}
 use Rattle.lp_frame.specs.declared.force.AtMost.{AtMost}
 use Rattle.lp_frame.specs.declared.force.Force.{Force}
 use Rattle.lp_frame.specs.Force.{HoldsAt, IsForcePoint, is_narrow, are_terms, is_row, is_bounded}
-use Rattle.lp_frame.specs.Split.{width_of, place, sign_at, joined, lifted}
+use Rattle.lp_frame.specs.Split.{place, sign_at, joined, lifted, split_terms}
 use Rattle.lp_frame.specs.Standard.{Standard, is_standard, standard_of, split_row, IsStandardPoint, IsSplit, SamePoints, IsLifted, KeepsPoint}
 use Rattle.lp_frame.proofs.Places.{place_within, width_some}
 use Rattle.lp_frame.proofs.Parts.{parted, parted_above, lifted_parted}
@@ -20,16 +21,32 @@ use Rattle.lp_frame.proofs.Tests.{both, first, second}
 
 -- what a bounded force says
 pub few_rows : (force : Force) → is_bounded force ≡ true → nat_le (length force.rows) 4000 ≡ true
-few_rows force h = ?
+few_rows force h =
+    let a = nat_le (length force.rows) 4000 in
+    let b = nat_le (place force.cols (length force.cols)) 4000 in
+    let d = list_all (is_row (length force.cols)) force.rows in
+    first a b (first (a && b) d (first (a && b && d) (are_terms (length force.cols) force.goal) h))
 
 pub few_columns : (force : Force) → is_bounded force ≡ true → nat_le (place force.cols (length force.cols)) 4000 ≡ true
-few_columns force h = ?
+few_columns force h =
+    let a = nat_le (length force.rows) 4000 in
+    let b = nat_le (place force.cols (length force.cols)) 4000 in
+    let d = list_all (is_row (length force.cols)) force.rows in
+    second a b (first (a && b) d (first (a && b && d) (are_terms (length force.cols) force.goal) h))
 
 pub good_rows : (force : Force) → is_bounded force ≡ true → list_all (is_row (length force.cols)) force.rows ≡ true
-good_rows force h = ?
+good_rows force h =
+    let a = nat_le (length force.rows) 4000 in
+    let b = nat_le (place force.cols (length force.cols)) 4000 in
+    let d = list_all (is_row (length force.cols)) force.rows in
+    second (a && b) d (first (a && b && d) (are_terms (length force.cols) force.goal) h)
 
 pub good_goal : (force : Force) → is_bounded force ≡ true → are_terms (length force.cols) force.goal ≡ true
-good_goal force h = ?
+good_goal force h =
+    let a = nat_le (length force.rows) 4000 in
+    let b = nat_le (place force.cols (length force.cols)) 4000 in
+    let d = list_all (is_row (length force.cols)) force.rows in
+    second (a && b && d) (are_terms (length force.cols) force.goal) h
 
 -- a row over the split columns holds where the row holds at the lifted numbers
 rows_lift : (cols : List Col) (rows : List AtMost) (over : ℤ) (w : ℕ → ℤ) → All (HoldsAt over w) (map (split_row cols) rows) → All (HoldsAt over (lifted cols w)) rows
@@ -77,7 +94,16 @@ same_points force b = record {
 }
 
 pub standard_is_standard : (force : Force) → is_bounded force ≡ true → is_standard (standard_of force) ≡ true
-standard_is_standard force b = ?
+standard_is_standard force b =
+    let n = place force.cols (length force.cols) in
+    let rows = map (split_row force.cols) force.rows in
+    let a = nat_le (length rows) 4000 in
+    let f = nat_le n 4000 in
+    let d = list_all (is_row n) rows in
+    let few : nat_le (length (map (split_row force.cols) force.rows)) 4000 ≡ true = subst (λ k. nat_le k 4000 ≡ true) (sym (length-map force.rows (split_row force.cols))) (few_rows force b) in
+    both (a && f && d) (are_terms n (split_terms force.cols force.goal))
+    (both (a && f) d (both a f few (few_columns force b)) (split_are_rows force.cols force.rows (good_rows force b)))
+    (split_are_terms force.cols force.goal (good_goal force b))
 
 -- the lifted point as a list keeps rows and goal
 rows_same : (n : ℕ) (rows : List AtMost) (over : ℤ) (v w : ℕ → ℤ) → list_all (is_row n) rows ≡ true → ((j : ℕ) → j < n → v j ≡ w j) → All (HoldsAt over v) rows → All (HoldsAt over w) rows

@@ -117,3 +117,25 @@ split_are_rows cols (row ∷ rows) h =
     both (is_row (place cols (length cols)) (split_row cols row)) (list_all (is_row (place cols (length cols))) (map (split_row cols) rows))
     (split_is_row cols row (first (is_row (length cols) row) (list_all (is_row (length cols)) rows) h))
     (split_are_rows cols rows (second (is_row (length cols) row) (list_all (is_row (length cols)) rows) h))
+
+-- what the test of terms says of the term at a place, and of those after it
+pub below_here : (n : ℕ) (ts : List (ℕ × ℤ)) (i : ℕ) (d : ℕ × ℤ) → i < length ts → ids_below n (drop i ts) ≡ true → (get_or ts i d).0 < n
+below_here n ts i d h b =
+    let k = rw (drop-cons ts i d) at b in
+    let f = first (nat_lt (get_or ts i d).0 n) (ids_below n (drop (suc i) ts)) k in
+    grind (arith, nat_tests)
+
+pub below_after : (n : ℕ) (ts : List (ℕ × ℤ)) (i : ℕ) (d : ℕ × ℤ) → i < length ts → ids_below n (drop i ts) ≡ true → ids_below n (drop (i + 1) ts) ≡ true
+below_after n ts i d h b =
+    let k = rw (drop-cons ts i d) at b in
+    rw add-one (second (nat_lt (get_or ts i d).0 n) (ids_below n (drop (suc i) ts)) k)
+
+pub narrow_here : (ts : List (ℕ × ℤ)) (i : ℕ) (d : ℕ × ℤ) → i < length ts → list_all (λ t. is_narrow t.1) (drop i ts) ≡ true → is_narrow (get_or ts i d).1 ≡ true
+narrow_here ts i d h b =
+    let k = rw (drop-cons ts i d) at b in
+    first (is_narrow (get_or ts i d).1) (list_all (λ t. is_narrow t.1) (drop (suc i) ts)) k
+
+pub narrow_after : (ts : List (ℕ × ℤ)) (i : ℕ) (d : ℕ × ℤ) → i < length ts → list_all (λ t. is_narrow t.1) (drop i ts) ≡ true → list_all (λ t. is_narrow t.1) (drop (i + 1) ts) ≡ true
+narrow_after ts i d h b =
+    let k = rw (drop-cons ts i d) at b in
+    rw add-one (second (is_narrow (get_or ts i d).1) (list_all (λ t. is_narrow t.1) (drop (suc i) ts)) k)

@@ -2,7 +2,7 @@
 
 ghost use Rattle.std.specs.Prelude.{◌≡◌, ◌≤◌, ◌+◌, true, length, pos, ◌≤ℤ◌, All, IfOk};
 ghost use Rattle.int_linear.specs.Sums.{at};
-ghost use Rattle.lp_frame.specs.Split.{place, width_of, joined};
+ghost use Rattle.lp_frame.specs.Split.{place, width_of, joined, AreLifted};
 ghost use Rattle.lp_frame.specs.Force.{is_bounded};
 ghost use Rattle.lp_frame.specs.Standard.{IsLifted, KeepsPoint};
 

@@ -1,14 +1,12 @@
 //! The limits of a force.
 
-ghost use Rattle.std.specs.Prelude.{◌≡◌, length};
+ghost use Rattle.std.specs.Prelude.{◌≡◌, ◌≤◌, length};
 ghost use Rattle.std.specs.List.{list_all};
-ghost use Rattle.lp_rows.specs.Holding.{ids_below};
-ghost use Rattle.lp_rows.specs.Rows.{ascends_from};
 ghost use Rattle.lp_frame.specs.Split.{place, width_of};
 ghost use Rattle.lp_frame.specs.Force.{is_narrow, are_terms, is_row, is_bounded};
 
 use crate::force::{AtMost, Force};
-use lp_rows::{Col, Sign};
+use lp_rows::{Col, Sign, are_ids_below, do_ids_ascend};
 
 /// The greatest number of rows, and that of split columns.
 pub const MOST: usize = 4000;
@@ -19,14 +17,18 @@ pub fn bounded(force: &Force) -> bool
     ensures { result ≡ is_bounded force.now }
 {
     let columns = force.cols.len();
+    if columns > MOST {
+        return false;
+    }
     force.rows.len() <= MOST
         && split_count(force.cols.as_slice()) <= MOST
-        && all_rows(columns, force.rows.as_slice())
+        && are_rows_over(columns, force.rows.as_slice())
         && are_terms_over(columns, force.goal.as_slice())
 }
 
 /// How many columns these become when free ones are split.
 pub(crate) fn split_count(cols: &[Col]) -> usize
+    requires { length cols.now ≤ 4000 }
     ensures { result ≡ place cols.now (length cols.now) }
 {
     let mut count = 0;
@@ -46,55 +48,28 @@ pub(crate) fn width(sign: Sign) -> usize
     }
 }
 
-fn all_rows(columns: usize, rows: &[AtMost]) -> bool
+fn are_rows_over(columns: usize, rows: &[AtMost]) -> bool
     ensures { result ≡ list_all (is_row columns) rows.now }
 {
-    for row in rows {
-        if !is_row_over(columns, row) {
-            return false;
-        }
-    }
-    true
+    rows.iter().all(|row| is_row_over(columns, row))
 }
 
 fn is_row_over(columns: usize, row: &AtMost) -> bool
     ensures { result ≡ is_row columns row.now }
 {
-    are_terms_over(columns, row.terms.as_slice()) && row.bound != i128::MIN
+    are_terms_over(columns, row.terms.as_slice()) && is_not_least(row.bound)
 }
 
 fn are_terms_over(columns: usize, terms: &[(u32, i128)]) -> bool
     ensures { result ≡ are_terms columns terms.now }
 {
-    ids_ascend(terms) && ids_name(columns, terms) && all_narrow(terms)
+    do_ids_ascend(terms)
+        && are_ids_below(terms, columns)
+        && terms.iter().all(|term| is_not_least(term.1))
 }
 
-fn ids_ascend(terms: &[(u32, i128)]) -> bool
-    ensures { result ≡ ascends_from 0 terms.now }
+fn is_not_least(number: i128) -> bool
+    ensures { result ≡ is_narrow number }
 {
-    let mut least: u64 = 0;
-    for term in terms {
-        if (term.0 as u64) < least {
-            return false;
-        }
-        least = term.0 as u64 + 1;
-    }
-    true
-}
-
-fn ids_name(columns: usize, terms: &[(u32, i128)]) -> bool
-    ensures { result ≡ ids_below columns terms.now }
-{
-    for term in terms {
-        if columns <= term.0 as usize {
-            return false;
-        }
-    }
-    true
-}
-
-fn all_narrow(terms: &[(u32, i128)]) -> bool
-    ensures { result ≡ list_all (λ t. is_narrow t.1) terms.now }
-{
-    terms.iter().all(|term| term.1 != i128::MIN)
+    number != i128::MIN
 }
