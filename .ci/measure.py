@@ -1,8 +1,9 @@
 #!/usr/bin/env python3
 """Measures the built program on the largest model, beside `cat` and `wc` on the same file, and prints a table.
 
-`measure.py [PROGRAM]` writes the model that `full_model.py` makes into a temporary folder, runs each command five times, one
-after the other in turns, and prints the least wall time and the greatest peak of resident memory.
+`measure.py [PROGRAM]` writes the model that `full_model.py` makes into a temporary folder, runs each command five times, in
+turns, and prints the least wall time and the greatest peak of resident memory. What Linux counts as the peak begins with the
+memory of this process, some 10 MiB, so a peak is told only of what passes that.
 """
 
 import os
@@ -11,9 +12,6 @@ import subprocess
 import sys
 import tempfile
 import time
-
-sys.dont_write_bytecode = True
-from full_model import full_model  # noqa: E402
 
 ROOT = pathlib.Path(__file__).resolve().parent.parent
 TURNS = 5
@@ -35,8 +33,7 @@ def measured(command, folder):
 def main(named):
     program = os.path.abspath(named[0]) if named else str(ROOT / "crates" / "gdp_cli" / "out" / "gdp_cli")
     with tempfile.TemporaryDirectory() as folder:
-        for name, text in zip(("full.gdp", "full.point", "full-fails.point"), full_model()):
-            pathlib.Path(folder, name).write_bytes(text)
+        subprocess.run([sys.executable, "-B", str(ROOT / ".ci" / "full_model.py"), folder], check=True)
         size = os.path.getsize(os.path.join(folder, "full.gdp"))
         commands = {
             "`cat full.gdp`, to /dev/null": ["cat", "full.gdp"],
@@ -52,8 +49,8 @@ def main(named):
         print("|---|---|---|---|---|")
         for name, some in runs.items():
             seconds, memory = min(run[0] for run in some), max(run[1] for run in some)
-            answer = f"`{some[0][3]}`, status {some[0][2]}" if "gdp test" in name else ""
-            print(f"| {name} | {seconds:.3f} | {memory / 2**20:.1f} MiB | {memory / size:.1f} | {answer} |")
+            told = f"{memory / 2**20:.1f} MiB | {memory / size:.1f} | `{some[0][3]}`, status {some[0][2]}"
+            print(f"| {name} | {seconds:.3f} | {told if 'gdp test' in name else '| |'} |")
 
 
 if __name__ == "__main__":
