@@ -199,7 +199,8 @@ def words():
     table = [[], ["test"], ["test", "M"], ["test", "M", "P", "P"], ["Test", "M", "P"], ["tes", "M", "P"], ["test ", "M", "P"]]
     table += [["", "M", "P"], ["M", "P"], ["M", "test", "P"], ["--", "test", "M", "P"], ["--help"], ["testing", "M", "P"]]
     later = ["format M", "compile bigm M", "solve bigm 100 M", "solve simplex 5 M", "check M P", "lp 100 M", "make 0 1", "bench bigm 100 0 1"]
-    return [Case(f"words: {line}", line, files, 7, err=b"words refused\n") for line in table + [line.split() for line in later]]
+    refused = [Case(f"words: {line}", line, files, 7, err=b"words refused\n") for line in table + [line.split() for line in later]]
+    return refused + [Case("words: no text of Unicode", ["test", b"M\xff", "P"], files, 9)]
 
 
 def reads():
@@ -261,6 +262,8 @@ def sizes():
 
 def streams():
     """Streams that take nothing, and memory that isn't there."""
+    if not os.path.exists("/dev/full"):
+        return []
     model, late = {"M": MODEL}, {"M": MODEL, "P": at(4)}
     full = full_model()[0]
     return [
