@@ -1,7 +1,9 @@
 -- What an exchange does, and which of its numbers is the first that is not narrow.
-use Rattle.std.specs.Prelude.{◌≡◌, ◌≢◌, ◌<◌, ◌+◌, ◌==◌, ◌||◌, ℕ, ℤ, pos, Bool, true, List, slice_set, if◌then◌else◌}
+use Rattle.std.specs.Prelude.{◌≡◌, ◌≢◌, ◌<◌, ◌+◌, ◌==◌, ◌||◌, ℕ, ℤ, pos, Bool, true, List, length, slice_set, if◌then◌else◌}
 use Rattle.simplex_rows.specs.Dropped.{all_without}
-use Rattle.simplex_rows.specs.Matrix.{AreNarrow, IsFirstWide, AreKept}
+use Rattle.int_linear.specs.Sums.{matrix}
+use Rattle.int_linear.specs.Divisors.{IsPrimitive}
+use Rattle.simplex_rows.specs.Matrix.{IsRectangle, AreNarrow, IsFirstWide, AreKept}
 use Rattle.simplex_rows.specs.Steps.{IsPivotRow}
 use Rattle.simplex_rows.specs.Tableau.{IsExchange}
 use Rattle.lp_rows.specs.declared.columns.WideAt.{WideAt}
@@ -54,3 +56,15 @@ pub record IsZeroElsewhere (r column skip : ℕ) (rows : ℕ → ℕ → ℤ) : 
 abbrev pub IsWideAtEntry : Table → ℕ → ℕ → WideAt → Type 0
 IsWideAtEntry t enter leave (Entry row column) = IsWideMove t enter leave row column
 IsWideAtEntry t enter leave _ = ⊥
+
+-- the rows are ready for an exchange in which the column becomes basic in this row
+pub record IsReady (n : ℕ) (rows : List (List ℤ)) (leaving enter gone : ℕ) (drops : Bool) : Type 0 where
+  pub shape : IsRectangle n rows
+  pub row : leaving < length rows
+  pub within : enter < n
+  pub column : gone < n
+  pub other : drops ≡ true → enter ≢ gone
+  pub entry_there : matrix rows leaving enter ≢ pos 0
+  pub primitive : IsPrimitive n (matrix rows leaving)
+  pub zeros : drops ≡ true → IsZeroElsewhere (length rows) gone leaving (matrix rows)
+  pub others : StaysKept n (length rows) (kept drops gone (matrix rows)) enter leaving

@@ -74,4 +74,4 @@ pub record IsSound (t : Table) : Type 0 where
 -- the same, with a spare row of the tableau's width
 pub record IsSoundWith (t : Table) (spare : List ℤ) : Type 0 where
   pub sound : IsSound t
-  pub spare : length spare ≡ width t
+  pub spare_width : length spare ≡ width t

@@ -14,7 +14,8 @@ use std::cmp::Ordering;
 // The row in which the column is basic, or `height`.
 pub(crate) fn find_row(basis: &[usize], height: usize, column: usize) -> usize
     requires { height ≤ length basis.now }
-    ensures { result ≡ unwrap_or (first_below height (λ i. slice_index_or basis.now i 0 == column)) height }
+    ensures value { result ≡ unwrap_or (first_below height (λ i. slice_index_or basis.now i 0 == column)) height }
+    ensures within { result ≤ height }
 {
     for i in 0..height {
         if basis[i] == column {
@@ -27,7 +28,8 @@ pub(crate) fn find_row(basis: &[usize], height: usize, column: usize) -> usize
 // The first column below `limit` with an entry other than 0.
 pub(crate) fn first_entry(row: &Row, limit: usize) -> Option<usize>
     requires { limit ≤ length row.now }
-    ensures { result ≡ first_below limit (λ j. not (int_eq (at row.now j) (pos 0))) }
+    ensures value { result ≡ first_below limit (λ j. not (int_eq (at row.now j) (pos 0))) }
+    ensures within { IfSome result (λ j. j < limit) }
 {
     for j in 0..limit {
         if row.entry(j) != 0 {
@@ -40,7 +42,8 @@ pub(crate) fn first_entry(row: &Row, limit: usize) -> Option<usize>
 // The first column below `limit` with a positive entry.
 pub(crate) fn first_positive(row: &Row, limit: usize) -> Option<usize>
     requires { limit ≤ length row.now }
-    ensures { result ≡ first_below limit (λ j. int_lt (pos 0) (at row.now j)) }
+    ensures value { result ≡ first_below limit (λ j. int_lt (pos 0) (at row.now j)) }
+    ensures within { IfSome result (λ j. j < limit) }
 {
     for j in 0..limit {
         if row.entry(j) > 0 {

@@ -7,7 +7,7 @@ ghost use Rattle.simplex_rows.specs.Dropped.{without};
 ghost use Rattle.simplex_rows.specs.Matrix.{IsRectangle};
 ghost use Rattle.simplex_rows.specs.Steps.{IsPivotRow};
 ghost use Rattle.simplex_rows.specs.Tableau.{IsExchange};
-ghost use Rattle.exact_simplex.specs.Exchange.{kept, IsNarrowExchange, IsWideExchange, StaysKept, IsZeroElsewhere};
+ghost use Rattle.exact_simplex.specs.Exchange.{kept, IsNarrowExchange, IsWideExchange, IsReady};
 
 use simplex_rows::{Row, clear_rows, first_wide_entry};
 use std::mem;
@@ -33,15 +33,7 @@ fn write_kept_pivot(spare: &mut Row, from: &Row, enter: usize, column: usize, dr
 /// Makes the entering column basic in this row, or names the row and column of the first number that isn't narrow,
 /// and then changes no row. Where the leaving column drops out, it counts as no column.
 pub(crate) fn exchange_rows(rows: &mut [Row], spare: &mut Row, row: usize, enter: usize, column: usize, drops: bool) -> Result<(), (usize, usize)>
-    requires shape { IsRectangle (length spare.old) rows.old }
-    requires row { row < length rows.old }
-    requires within { enter < length spare.old }
-    requires column { column < length spare.old }
-    requires other { drops ≡ true → enter ≢ column }
-    requires entry { matrix rows.old row enter ≢ pos 0 }
-    requires primitive { IsPrimitive (length spare.old) (matrix rows.old row) }
-    requires zeros { drops ≡ true → IsZeroElsewhere (length rows.old) column row (matrix rows.old) }
-    requires kept { StaysKept (length spare.old) (length rows.old) (kept drops column (matrix rows.old)) enter row }
+    requires { IsReady (length spare.old) rows.old row enter column drops }
     ensures ok { OnOk result (IsExchange (length spare.old) (length rows.old) (kept drops column (matrix rows.old)) row enter (matrix rows.new)) }
     ensures narrow { OnOk result (IsNarrowExchange (length spare.old) (length rows.old) (kept drops column (matrix rows.old)) enter row) }
     ensures wide { IfErr result (λ place. IsWideExchange (length spare.old) (length rows.old) (kept drops column (matrix rows.old)) enter row place.0 place.1) }

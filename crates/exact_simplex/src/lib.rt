@@ -1,6 +1,7 @@
 //! The exact simplex.
 #![tactic(auto)]
 
+mod bland;
 mod choosing;
 mod exchange;
 pub mod moves;

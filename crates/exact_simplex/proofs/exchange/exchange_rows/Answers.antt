@@ -47,7 +47,7 @@ clear_rows-requires-clause-kept c =
     let same : (i : ℕ) → i < length c.args.rows.now → i ≢ c.args.row → (j : ℕ) → kept c.args.drops c.args.column (matrix c.args.rows.now) i j ≡ matrix c.args.rows.now i j =
         λ i l d j. kept_else c.args.drops c.args.column rows i j (λ e. (c.requires.zeros e).each i l d) in
     subst (λ k. AreKept k (length c.args.rows.now) c.args.row (matrix c.args.rows.now) (at c.write_kept_pivot.new.spare)) (sym size)
-        (kept_rows n r c.args.row (at c.write_kept_pivot.new.spare) (kept c.args.drops c.args.column rows) rows same (c.requires.kept.each (at c.write_kept_pivot.new.spare) pivot))
+        (kept_rows n r c.args.row (at c.write_kept_pivot.new.spare) (kept c.args.drops c.args.column rows) rows same (c.requires.others.each (at c.write_kept_pivot.new.spare) pivot))
 
 pub returns-clause-ok : goal.returns-clause-ok
 returns-clause-ok c =
