@@ -51,6 +51,7 @@ module _ (n enter : ℕ) (within : enter < n) (p q : ℕ → ℤ) (same : (j : �
 
   pub wide_pivot : (row : ℕ → ℤ) (column : ℕ) → IsFirstWideStep n enter row p column → IsFirstWideStep n enter row q column
   wide_pivot row column h = record {
+      within = h.within;
       entry = h.entry;
       each = λ a b x.
           let w = h.each a b (subst (λ z. IsFactors z (row enter) a b) (sym (same enter within)) x) in
@@ -80,6 +81,7 @@ module _ (n enter : ℕ) (pivot f g : ℕ → ℤ) (same : (j : ℕ) → f j ≡
 
   pub wide_row : (column : ℕ) → IsFirstWideStep n enter f pivot column → IsFirstWideStep n enter g pivot column
   wide_row column h = record {
+      within = h.within;
       entry = λ z. h.entry (same enter ∙ z);
       each = λ a b x.
           let w = h.each a b (subst (λ z. IsFactors (pivot enter) z a b) (sym (same enter)) x) in

@@ -1,8 +1,8 @@
 -- An exchange that Bland's rule names keeps what is true of every tableau, and makes the tableau of the new basis.
-use Rattle.std.proofs.Common.{◌≡◌, ◌≢◌, ◌<◌, ◌≤◌, ◌+◌, ◌==◌, ◌||◌, ◌⊎◌, ℕ, ℤ, pos, negsuc, ◌*ℤ◌, ◌-ℤ◌, ◌<ℤ◌, ◌≤ℤ◌, neg_ℤ, Bool, true, false, cond, int_lt, List, length, get_or, set, slice_index_or, arith, refl, ap, sym, ◌∙◌, subst, inl, inr}
+use Rattle.std.proofs.Common.{◌≡◌, ◌≢◌, ◌<◌, ◌≤◌, ◌+◌, ◌==◌, ◌||◌, ◌⊎◌, ℕ, ℤ, pos, negsuc, ◌*ℤ◌, ◌-ℤ◌, ◌<ℤ◌, ◌≤ℤ◌, neg_ℤ, Bool, true, false, cond, int_lt, List, length, take, drop, ◌++◌, get_or, set, slice_index_or, arith, refl, ap, sym, ◌∙◌, subst, inl, inr}
 use Rattle.std.proofs.lemmas.Int.{ints}
 use Rattle.std.proofs.lemmas.Bool.{cases_eq, cases_lt, eqb-true, eqb-false, eq-eqb, ne_eqb, cond_both}
-use Rattle.std.proofs.lemmas.List.{get_or-set_same, get_or-set_other, length-set}
+use Rattle.std.proofs.lemmas.List.{get_or-set_same, get_or-set_other, length-set, take-append-le, take_all}
 use Rattle.std.specs.Prelude.{unsigned_abs}
 use lib.IntN.{*ℤ_comm}
 use Rattle.int_linear.specs.Sums.{inner, matrix}
@@ -15,10 +15,10 @@ use Rattle.simplex_rows.specs.Steps.{IsPivotRow, IsCleared}
 use Rattle.simplex_rows.specs.Tableau.{IsSpan, IsCanonical, IsCanonicalBut, IsTableau, IsExchange, IsBasisAfter, IsCombination}
 use Rattle.simplex_rows.proofs.Directions.{basis_differs}
 use Rattle.simplex_rows.proofs.Dropped.{without_here, without_else, dropped_spans, dropped_canonical}
-use Rattle.simplex_rows.proofs.Exchanges.{exchange_spans, exchange_canonical, canonical_but}
+use Rattle.simplex_rows.proofs.Exchanges.{pivot_zero, exchange_spans, exchange_canonical, canonical_but}
 use Rattle.simplex_rows.proofs.Feasible.{cleared_nonneg}
 use Rattle.exact_simplex.specs.Table.{Table, IsSound, IsFresh, IsTableauFor, entry, right_side, basic, artificial, right, scale, width, unit, in_force, slack}
-use Rattle.exact_simplex.specs.Exchange.{kept, counted}
+use Rattle.exact_simplex.specs.Exchange.{kept, counted, IsReady, StaysKept}
 use Rattle.exact_simplex.proofs.Pivots.{sign_cases}
 use Rattle.exact_simplex.proofs.Named.{IsNamed, StaysFeasible}
 
@@ -84,9 +84,9 @@ unit_kept t k l = elim (cases_eq k t.height) as (λ _. unit t k ≢ artificial t
 abbrev pub changed : Table → List (List ℤ) → List ℕ → Bool → Table
 changed t rows basis dropped = record { columns = t.columns; height = t.height; rows = rows; basis = basis; dropped = dropped }
 
-module _ (t : Table) (s : IsSound t) (enter leave : ℕ) (m : IsNamed t enter leave) (rows : List (List ℤ)) (x : IsExchange (width t) (t.height + 1) (counted t leave) m.row enter (matrix rows)) where
+module _ (t : Table) (s : IsSound t) (enter leave : ℕ) (m : IsNamed t enter leave) where
   -- the counted row is the row itself, but at the artificial where that leaves
-  counted_at : (i j : ℕ) → (leave ≡ artificial t → j ≢ artificial t) → counted t leave i j ≡ entry t i j
+  pub counted_at : (i j : ℕ) → (leave ≡ artificial t → j ≢ artificial t) → counted t leave i j ≡ entry t i j
   counted_at i j h = go (leave == artificial t) refl
     where
       go : (b : Bool) → (leave == artificial t) ≡ b → kept b (artificial t) (entry t) i j ≡ entry t i j
@@ -94,21 +94,50 @@ module _ (t : Table) (s : IsSound t) (enter leave : ℕ) (m : IsNamed t enter le
       go false e = refl
 
   -- the rows but the leaving one are canonical as they are counted
-  counted_canonical : IsCanonicalBut m.row (width t) (t.height + 1) (basic t) (counted t leave)
+  pub counted_canonical : IsCanonicalBut m.row (width t) (t.height + 1) (basic t) (counted t leave)
   counted_canonical = go (leave == artificial t) refl
     where
       go : (b : Bool) → (leave == artificial t) ≡ b → IsCanonicalBut m.row (width t) (t.height + 1) (basic t) (kept b (artificial t) (entry t))
       go true e = let l = m.within in dropped_canonical (width t) (t.height + 1) (basic t) (entry t) (artificial t) m.row (omega arith) (m.leaves ∙ eqb-true leave (artificial t) e) s.canonical
       go false e = canonical_but m.row (width t) (t.height + 1) (basic t) (entry t) s.canonical
 
-  basis_after : IsBasisAfter m.row enter (basic t) (λ i. slice_index_or (set t.basis m.row enter) i 0)
+  pub basis_after : IsBasisAfter m.row enter (basic t) (λ i. slice_index_or (set t.basis m.row enter) i 0)
   basis_after = record {
       entered = let l = m.within in let k = s.basis_count in get_or-set_same t.basis m.row enter 0 (omega arith);
       kept = λ i d. get_or-set_other t.basis m.row i enter 0 d;
   }
 
+  -- the rows are ready for the exchange
+  pub ready : IsReady (width t) t.rows m.row enter (artificial t) (leave == artificial t)
+  ready = record {
+      shape = s.shape;
+      row = let l = m.within in let k = s.row_count in omega arith;
+      within = let l = m.enter_below in omega arith;
+      column = omega arith;
+      other = λ e. m.other (eqb-true leave (artificial t) e);
+      entry_there = m.nonzero;
+      primitive = s.canonical.primitive m.row (let l = m.within in omega arith);
+      zeros = λ e. record { each = λ i l d.
+          let k = s.row_count in
+          let w = m.within in
+          ap (entry t i) (sym (m.leaves ∙ eqb-true leave (artificial t) e)) ∙ s.canonical.zeros i m.row (omega arith) (omega arith) d };
+      others = subst (λ r. StaysKept (width t) r (counted t leave) enter m.row) (sym s.row_count) (record { each = λ pivot p. record {
+          entry = λ i l d.
+              let w = m.within in
+              let off : leave ≡ artificial t → basic t i ≢ artificial t = λ e q. basis_differs (width t) (t.height + 1) (basic t) (entry t) s.canonical i m.row l (omega arith) d (q ∙ sym (m.leaves ∙ e)) in
+              record {
+                  column = basic t i;
+                  within = s.canonical.within i l;
+                  entry = λ z. let own : pos 0 <ℤ entry t i (basic t i) = s.canonical.positive i l in let same : counted t leave i (basic t i) ≡ entry t i (basic t i) = counted_at i (basic t i) off in absurd (omega (arith, ints));
+                  pivot_entry = pivot_zero (width t) enter (counted t leave m.row) pivot p (basic t i) (s.canonical.within i l) (counted_canonical.zeros m.row i (omega arith) l (λ e. d (sym e)));
+              };
+          primitive = λ i l d. counted_canonical.primitive i l d;
+      } });
+  }
+
+module _ (t : Table) (s : IsSound t) (enter leave : ℕ) (m : IsNamed t enter leave) (rows : List (List ℤ)) (x : IsExchange (width t) (t.height + 1) (counted t leave) m.row enter (matrix rows)) where
   pub canonical_after : IsCanonical (width t) (t.height + 1) (λ i. slice_index_or (set t.basis m.row enter) i 0) (matrix rows)
-  canonical_after = exchange_canonical (width t) (t.height + 1) (counted t leave) m.row enter (matrix rows) x (basic t) (λ i. slice_index_or (set t.basis m.row enter) i 0) counted_canonical basis_after
+  canonical_after = exchange_canonical (width t) (t.height + 1) (counted t leave) m.row enter (matrix rows) x (basic t) (λ i. slice_index_or (set t.basis m.row enter) i 0) (counted_canonical t s enter leave m) (basis_after t s enter leave m)
 
   -- no right side is negative afterwards
   pub feasible_after : (i : ℕ) → i < t.height → pos 0 ≤ℤ matrix rows i (right t)
@@ -117,8 +146,8 @@ module _ (t : Table) (s : IsSound t) (enter leave : ℕ) (m : IsNamed t enter le
           (pivot_right (entry t m.row enter) (right_side t m.row) x.pivot.divisor x.pivot.sign (matrix rows m.row enter) (matrix rows m.row (right t)) x.pivot.signed x.pivot.divided at_enter at_right x.pivot.positive m.feasible.own)
     | inr e ↦
           let c = x.others i (omega arith) e in
-          let f_enter : counted t leave i enter ≡ entry t i enter = counted_at i enter m.other in
-          let f_right : counted t leave i (right t) ≡ right_side t i = counted_at i (right t) (λ q. omega arith) in
+          let f_enter : counted t leave i enter ≡ entry t i enter = (counted_at t s enter leave m) i enter m.other in
+          let f_right : counted t leave i (right t) ≡ right_side t i = (counted_at t s enter leave m) i (right t) (λ q. omega arith) in
           let ratio : (matrix rows m.row (right t) *ℤ entry t i enter) ≤ℤ (right_side t i *ℤ matrix rows m.row enter) =
               pivot_ratio (entry t m.row enter) (right_side t m.row) x.pivot.divisor x.pivot.sign (matrix rows m.row enter) (matrix rows m.row (right t)) (entry t i enter) (right_side t i) x.pivot.signed x.pivot.divided at_enter at_right x.pivot.positive (m.feasible.others i l e) in
           let a : matrix rows m.row (right t) *ℤ counted t leave i enter ≡ matrix rows m.row (right t) *ℤ entry t i enter = ap (λ z. matrix rows m.row (right t) *ℤ z) f_enter in
@@ -126,9 +155,9 @@ module _ (t : Table) (s : IsSound t) (enter leave : ℕ) (m : IsNamed t enter le
           cleared_nonneg (width t) enter (right t) (counted t leave i) (matrix rows m.row) (matrix rows i) x.column_within (omega arith) c x.pivot.positive (omega (arith, ints)) ]
     where
       at_enter : x.pivot.divisor *ℤ matrix rows m.row enter ≡ x.pivot.sign *ℤ entry t m.row enter
-      at_enter = x.pivot.each enter x.column_within ∙ ap (λ z. x.pivot.sign *ℤ z) (counted_at m.row enter m.other)
+      at_enter = x.pivot.each enter x.column_within ∙ ap (λ z. x.pivot.sign *ℤ z) (counted_at t s enter leave m m.row enter m.other)
       at_right : x.pivot.divisor *ℤ matrix rows m.row (right t) ≡ x.pivot.sign *ℤ right_side t m.row
-      at_right = x.pivot.each (right t) (omega arith) ∙ ap (λ z. x.pivot.sign *ℤ z) (counted_at m.row (right t) (λ q. omega arith))
+      at_right = x.pivot.each (right t) (omega arith) ∙ ap (λ z. x.pivot.sign *ℤ z) (counted_at t s enter leave m m.row (right t) (λ q. omega arith))
 
   pub sound_after : (dropped : Bool) → length rows ≡ t.height + 1 → IsRectangle (width t) rows → IsSound (changed t rows (set t.basis m.row enter) dropped)
   sound_after dropped count shape = record {
@@ -140,8 +169,8 @@ module _ (t : Table) (s : IsSound t) (enter leave : ℕ) (m : IsNamed t enter le
       canonical = canonical_after;
       goal = let l = m.within in get_or-set_other t.basis m.row t.height enter 0 (omega arith) ∙ s.goal;
       real = λ i l. elim (cases_eq i m.row) as (λ _. slice_index_or (set t.basis m.row enter) i 0 < right t) [
-          inl e ↦ subst (λ z. z < right t) (sym (ap (λ k. slice_index_or (set t.basis m.row enter) k 0) e ∙ basis_after.entered)) m.enter_below
-        | inr e ↦ subst (λ z. z < right t) (sym (basis_after.kept i e)) (s.real i l) ];
+          inl e ↦ subst (λ z. z < right t) (sym (ap (λ k. slice_index_or (set t.basis m.row enter) k 0) e ∙ (basis_after t s enter leave m).entered)) m.enter_below
+        | inr e ↦ subst (λ z. z < right t) (sym ((basis_after t s enter leave m).kept i e)) (s.real i l) ];
       start = λ k l n. absurd (let f = feasible_after k l in omega (arith, ints));
   }
 
@@ -165,3 +194,7 @@ module _ (t : Table) (s : IsSound t) (enter leave : ℕ) (m : IsNamed t enter le
               (dropped_spans (width t) (t.height + 1) equation (unit t) (entry t) (artificial t) (unit_kept t) sp)
       go true ed false eb sp = exchange_spans (width t) (t.height + 1) (entry t) m.row enter (matrix rows) (counted_false eb) (all_without (artificial t) equation) (unit t) sp
       go false ed false eb sp = exchange_spans (width t) (t.height + 1) (entry t) m.row enter (matrix rows) (counted_false eb) equation (unit t) sp
+
+-- a list written back whole
+pub whole_written : {X : Type 0} (n : ℕ) (xs ys : List X) → length xs ≡ n → take n (xs ++ drop (length xs) ys) ≡ xs
+whole_written n xs ys e = take-append-le n xs (drop (length xs) ys) (omega arith) ∙ take_all n xs (omega arith)

@@ -92,7 +92,7 @@ narrow_by_any n enter a b row pivot x h = record {
 
 pub wide_by_any : (n enter : ℕ) (a b : ℤ) (row pivot : ℕ → ℤ) (column : ℕ) → row enter ≢ pos 0 → IsFactors (pivot enter) (row enter) a b → IsFirstWideBy n a b row pivot column → IsFirstWideStep n enter row pivot column
 wide_by_any n enter a b row pivot column e x h = record {
-  entry = e;
+  within = h.within; entry = e;
   each = λ c d y.
       let same = factors_same (pivot enter) (row enter) a b c d x y in
       subst (λ k. IsFirstWideBy n c k row pivot column) same.1 (subst (λ k. IsFirstWideBy n k b row pivot column) same.0 h);

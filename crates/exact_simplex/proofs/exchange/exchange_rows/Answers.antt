@@ -30,7 +30,7 @@ returns-in-Some-clause-wide c =
         λ i l d j. sym (kept_else c.args.drops c.args.column rows i j (λ e. (c.requires.zeros e).each i l d)) in
     let wide : IsFirstWide (length c.args.spare.now) (length c.args.rows.now) c.args.enter c.args.row (matrix c.args.rows.now) (at c.write_kept_pivot.new.spare) c.in-Some.place.0 c.in-Some.place.1 =
         subst (λ k. IsFirstWide k (length c.args.rows.now) c.args.enter c.args.row (matrix c.args.rows.now) (at c.write_kept_pivot.new.spare) c.in-Some.place.0 c.in-Some.place.1) size c.in-Some.ensures in
-    record { each = λ other x.
+    record { row_within = wide.within; column_within = wide.wide.within; each = λ other x.
         first_wide_pivot n c.args.enter c.requires.within (at c.write_kept_pivot.new.spare) other
             (pivot_same n c.args.enter (kept c.args.drops c.args.column rows c.args.row) (at c.write_kept_pivot.new.spare) other c.requires.within pivot x)
             r c.args.row (kept c.args.drops c.args.column rows) c.in-Some.place.0 c.in-Some.place.1
