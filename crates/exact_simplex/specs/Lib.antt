@@ -1,4 +1,5 @@
 pub mod Bland
 pub mod Choice
 pub mod Exchange
+pub mod Log
 pub mod Table

@@ -4,8 +4,10 @@
 mod bland;
 mod choosing;
 mod exchange;
+pub mod log;
 pub mod moves;
 pub mod tableau;
 
-pub use moves::Move;
+pub use log::{Event, Log};
+pub use moves::{Move, Outcome};
 pub use tableau::Tableau;
