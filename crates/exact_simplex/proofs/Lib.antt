@@ -4,3 +4,4 @@ pub mod Tests
 pub mod Ratios
 pub mod Named
 pub mod Sound
+pub mod Runs

@@ -2,4 +2,5 @@ pub mod Bland
 pub mod Choice
 pub mod Exchange
 pub mod Log
+pub mod Run
 pub mod Table

@@ -1,14 +1,16 @@
 //! The tableau, and its exchange.
 
-ghost use Rattle.std.specs.Prelude.{◌≡◌, ◌||◌, ℕ, ℤ, OnOk, OnErr, IfErr};
+ghost use Rattle.std.specs.Prelude.{◌≡◌, ◌||◌, ℕ, ℤ, ◌+◌, ◌≤◌, OnOk, OnErr, IfErr, IfSome, IfNone};
 ghost use Rattle.exact_simplex.specs.Table.{IsTableauFor};
 ghost use Rattle.exact_simplex.specs.Bland.{bland_move};
 ghost use Rattle.exact_simplex.specs.Exchange.{IsExchanged, IsNarrowMove, IsWideAtEntry};
+ghost use Rattle.exact_simplex.specs.Run.{HasRun, HasEnded, HasTurned};
 
 use crate::bland::move_of;
 use crate::choosing::find_row;
 use crate::exchange::exchange_rows;
-use crate::moves::Move;
+use crate::log::{Event, Log};
+use crate::moves::{Move, Outcome};
 use lp_rows::WideAt;
 use simplex_rows::Row;
 use std::marker::Model;
@@ -66,6 +68,49 @@ impl Tableau {
                 self.basis[row] = enter;
                 self.dropped = either(self.dropped, drops);
                 Ok(())
+            }
+        }
+    }
+
+    /// Makes Bland's moves, logs each and takes one from `steps` for each, until none is due, no step is left, or
+    /// a number of the exchange that is due isn't narrow. It takes no memory.
+    pub fn run(&mut self, steps: &mut u32, log: &mut Log) -> Outcome
+        requires { steps.old ≤ log.old.spare }
+        ensures moves { HasRun self.old self.new steps.old steps.new log.old.events log.new.events }
+        ensures tableau { (equation : ℕ → ℕ → ℤ) → IsTableauFor equation self.old → IsTableauFor equation self.new }
+        ensures ended { HasEnded self.new steps.new result }
+        ensures spare { log.new.spare + steps.old ≡ log.old.spare + steps.new }
+    {
+        'turns: loop {
+            match self.turn(steps, log) {
+                None => {}
+                Some(outcome) => return outcome,
+            }
+        }
+    }
+
+    // One move, or how the run has ended.
+    fn turn(&mut self, steps: &mut u32, log: &mut Log) -> Option<Outcome>
+        requires { steps.old ≤ log.old.spare }
+        ensures ended { IfSome result (λ outcome. HasEnded self.new steps.new outcome × (self.new ≡ self.old) × (steps.new ≡ steps.old) × (log.new ≡ log.old)) }
+        ensures moved { IfNone result (HasTurned self.old self.new steps.old steps.new log.old log.new) }
+    {
+        match self.bland() {
+            Move::Optimal => Some(Outcome::Optimal),
+            Move::Infeasible => Some(Outcome::Infeasible),
+            Move::Unbounded { enter } => Some(Outcome::Unbounded { enter }),
+            Move::Exchange { enter, leave } => {
+                if *steps == 0 {
+                    return Some(Outcome::Steps);
+                }
+                match self.exchange(enter, leave) {
+                    Err(place) => Some(Outcome::Wide(place)),
+                    Ok(()) => {
+                        *steps -= 1;
+                        log.push(Event::Move { enter, leave });
+                        None
+                    }
+                }
             }
         }
     }
