@@ -1,6 +1,6 @@
+pub mod Both
 pub mod Limits
 pub mod Parts
 pub mod Places
 pub mod Points
 pub mod Terms
-pub mod Tests

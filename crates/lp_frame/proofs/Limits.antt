@@ -5,7 +5,7 @@ use Rattle.std.proofs.lemmas.Bool.Decides.{nat_tests}
 use Rattle.fractions.specs.Width.{IsNarrow}
 use Rattle.lp_frame.specs.Force.{is_narrow, are_terms, is_row}
 use Rattle.lp_frame.specs.Standard.{Standard, is_standard}
-use Rattle.lp_frame.proofs.Tests.{first, second}
+use Rattle.lp_frame.proofs.Both.{first, second}
 
 pub form_few_rows : (form : Standard) → is_standard form ≡ true → length form.rows ≤ 4000
 form_few_rows form h =

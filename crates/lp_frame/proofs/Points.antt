@@ -15,7 +15,7 @@ use Rattle.lp_frame.specs.Standard.{is_standard, standard_of, split_row, IsStand
 use Rattle.lp_frame.proofs.Places.{place_within, place_length, width_some}
 use Rattle.lp_frame.proofs.Parts.{parted, parted_above, lifted_parted}
 use Rattle.lp_frame.proofs.Terms.{dot_split, dot_same, terms_below, split_are_rows, split_are_terms}
-use Rattle.lp_frame.proofs.Tests.{both, first, second}
+use Rattle.lp_frame.proofs.Both.{both, first, second}
 
 -- what a bounded force says
 pub few_rows : (force : Force) → is_bounded force ≡ true → nat_le (length force.rows) 4000 ≡ true
