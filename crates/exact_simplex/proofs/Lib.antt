@@ -5,3 +5,4 @@ pub mod Ratios
 pub mod Named
 pub mod Sound
 pub mod Runs
+pub mod Filling

@@ -1,5 +1,6 @@
 pub mod Bland
 pub mod Choice
+pub mod Equations
 pub mod Exchange
 pub mod Log
 pub mod Run

@@ -4,6 +4,7 @@
 mod bland;
 mod choosing;
 mod exchange;
+mod first;
 pub mod log;
 pub mod moves;
 pub mod tableau;
