@@ -6,3 +6,4 @@ pub mod Named
 pub mod Sound
 pub mod Runs
 pub mod Filling
+pub mod FirstRows

@@ -1,6 +1,6 @@
 //! The rows of the first tableau: the equations of the standard form.
 
-ghost use Rattle.std.specs.Prelude.{◌≡◌, ◌<◌, ◌≤◌, ◌+◌, true, pos, negsuc, ◌*ℤ◌, length, slice_set, if◌then◌else◌, IfOk};
+ghost use Rattle.std.specs.Prelude.{◌≡◌, ◌<◌, ◌≤◌, ◌+◌, true, pos, negsuc, ◌*ℤ◌, length, slice_set, int_lt, if◌then◌else◌, IfOk};
 ghost use Rattle.std.specs.List.{list_all};
 ghost use Rattle.fractions.specs.Width.{IsNarrow};
 ghost use Rattle.int_linear.specs.Sums.{at};
@@ -42,6 +42,17 @@ fn write_terms(row: &mut Row, terms: &[(u32, i128)], negate: bool)
     }
 }
 
+// What a row with this bound has in the artificial's column.
+fn artificial_entry(bound: i128) -> i128
+    ensures value { result ≡ (if int_lt bound (pos 0) then negsuc 0 else pos 0) }
+    ensures narrow { IsNarrow result }
+{
+    if bound < 0 {
+        return -1;
+    }
+    0
+}
+
 /// Row k of the first tableau.
 pub(crate) fn first_row(alloc: Global, row: &AtMost, columns: usize, height: usize, k: usize) -> Result<Row, Memory>
     requires row { is_row columns row.now ≡ true }
@@ -53,7 +64,7 @@ pub(crate) fn first_row(alloc: Global, row: &AtMost, columns: usize, height: usi
     let mut entries = Row::zeros(alloc, columns + height + 3)?;
     write_terms(&mut entries, row.terms.as_slice(), false);
     entries.set(columns + k, 1);
-    entries.set(columns + height, if row.bound < 0 { -1 } else { 0 });
+    entries.set(columns + height, artificial_entry(row.bound));
     entries.set(columns + height + 1, row.bound);
     Ok(entries)
 }
