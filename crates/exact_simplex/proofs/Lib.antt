@@ -7,3 +7,4 @@ pub mod Sound
 pub mod Runs
 pub mod Filling
 pub mod FirstRows
+pub mod FirstTable

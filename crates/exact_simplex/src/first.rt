@@ -8,7 +8,7 @@ ghost use Rattle.int_linear.specs.Terms.{coefficients};
 ghost use Rattle.lp_rows.specs.Holding.{ids_below};
 ghost use Rattle.lp_rows.specs.Rows.{ascends_from};
 ghost use Rattle.lp_frame.specs.Force.{are_terms, is_narrow, is_row};
-ghost use Rattle.exact_simplex.specs.Equations.{row_terms, goal_terms, IsBlank, IsRowOf};
+ghost use Rattle.exact_simplex.specs.Equations.{row_terms, goal_terms, IsBlank, IsRowOf, AreFirst, IsFirstBasis};
 
 use fractions::Memory;
 use lp_frame::AtMost;
@@ -80,4 +80,37 @@ pub(crate) fn first_goal(alloc: Global, goal: &[(u32, i128)], columns: usize, he
     write_terms(&mut entries, goal, true);
     entries.set(columns + height + 2, 1);
     Ok(entries)
+}
+
+/// The rows of the first tableau, the goal row last.
+pub(crate) fn first_rows(alloc: Global, rows: &[AtMost], goal: &[(u32, i128)], columns: usize) -> Result<Vec<Row>, Memory>
+    requires rows { list_all (is_row columns) rows.now ≡ true }
+    requires goal { are_terms columns goal.now ≡ true }
+    requires columns { columns ≤ 4000 }
+    requires height { length rows.now ≤ 4000 }
+    ensures { IfOk result (λ made. AreFirst columns rows.now goal.now made.items) }
+{
+    let height = rows.len();
+    let mut made = Vec::with_capacity(alloc, height + 1)?;
+    for k in 0..height {
+        let row = first_row(alloc, &rows[k], columns, height, k)?;
+        made.push(row)?;
+    }
+    let last = first_goal(alloc, goal, columns, height)?;
+    made.push(last)?;
+    Ok(made)
+}
+
+/// The slack basis.
+pub(crate) fn first_basis(alloc: Global, columns: usize, height: usize) -> Result<Vec<usize>, Memory>
+    requires columns { columns ≤ 4000 }
+    requires height { height ≤ 4000 }
+    ensures { IfOk result (λ basis. IsFirstBasis columns height basis.items) }
+{
+    let mut basis = Vec::with_capacity(alloc, height + 1)?;
+    for k in 0..height {
+        basis.push(columns + k)?;
+    }
+    basis.push(columns + height + 2)?;
+    Ok(basis)
 }
