@@ -11,6 +11,7 @@ use Rattle.int_linear.proofs.Totals.{total_only}
 use Rattle.int_linear.proofs.Inner.{inner_same}
 use Rattle.int_linear.proofs.Divisors.{primitive_unit}
 use Rattle.int_linear.proofs.Dots.{coefficients-append, coefficients-scaled}
+use Rattle.simplex_rows.specs.Dropped.{all_without}
 use Rattle.simplex_rows.specs.Matrix.{IsRectangle}
 use Rattle.simplex_rows.specs.Tableau.{IsSpan, IsCanonical, IsTableau}
 use Rattle.lp_rows.specs.Holding.{ids_below}
@@ -19,7 +20,7 @@ use Rattle.lp_frame.specs.Force.{is_row, are_terms, is_narrow}
 use Rattle.lp_frame.specs.Standard.{Standard, is_standard}
 use Rattle.lp_frame.proofs.Terms.{terms_below}
 use Rattle.exact_simplex.specs.Table.{Table, IsSound, IsFresh, IsTableauFor, entry, right_side, basic, artificial, right, scale, width, unit, slack, in_force}
-use Rattle.exact_simplex.specs.Equations.{row_terms, goal_terms, row_at, equation_of, IsTableauOf, IsFirstTable}
+use Rattle.exact_simplex.specs.Equations.{row_terms, goal_terms, row_at, equation_of, IsTableauOf, IsFirstTable, AreFirst, IsFirstBasis}
 use Rattle.exact_simplex.proofs.FirstRows.{past_ids}
 
 -- the parts of the test of a standard form
@@ -169,7 +170,7 @@ module _ (form : Standard) (ok : is_standard form ≡ true) (t : Table) (f : IsF
       columns = f.columns;
       height = f.height;
       tableau = record {
-          span = subst (λ e. IsSpan (width t) (t.height + 1) e (unit t) (entry t)) (sym (ap (λ d. cond d _ (equation_of form)) f.dropped)) first_span;
+          span = subst (λ e. IsSpan (width t) (t.height + 1) e (unit t) (entry t)) (sym (ap (λ d. cond d (all_without (artificial t) (equation_of form)) (equation_of form)) f.dropped)) first_span;
           canonical = first_canonical;
       };
   }
@@ -207,3 +208,31 @@ module _ (form : Standard) (ok : is_standard form ≡ true) (t : Table) (f : IsF
       real = λ i l. let e : basic t i ≡ slack t i = f.basis i (omega arith) ∙ unit_slack i l in omega arith;
       start = λ k l n. record { each = fresh_row };
   }
+
+-- the table that these rows and this basis make
+abbrev pub made : ℕ → ℕ → List (List ℤ) → List ℕ → Table
+made columns height rows basis = record { columns = columns; height = height; rows = rows; basis = basis; dropped = false }
+
+pub made_first : (form : Standard) (columns height : ℕ) (rows : List (List ℤ)) (basis : List ℕ) → columns ≡ form.columns → height ≡ length form.rows → AreFirst columns form.rows form.goal rows → IsFirstBasis columns height basis → IsFirstTable form (made columns height rows basis)
+made_first form columns height rows basis ce he r b = record {
+    columns = ce;
+    height = he;
+    dropped = refl;
+    basis = λ k l. elim (cases_eq k height) as (λ _. slice_index_or basis k 0 ≡ unit (made columns height rows basis) k) [
+        inl e ↦ ap (λ i. slice_index_or basis i 0) e ∙ b.scale_last ∙ sym (ap (λ c. cond c (columns + height + 2) (columns + k)) (eq-eqb k height e))
+      | inr e ↦ b.slacks k (omega arith) ∙ sym (ap (λ c. cond c (columns + height + 2) (columns + k)) (ne_eqb k height e)) ];
+    rows = λ k j l w.
+        let q : AreFirst form.columns form.rows form.goal rows = subst (λ c. AreFirst c form.rows form.goal rows) ce r in
+        elim (cases_eq k (length form.rows)) as (λ _. matrix rows k j ≡ equation_of form k j) [
+            inl e ↦
+                ap (λ i. matrix rows i j) e ∙ q.goal_row.each j ∙ one_mul (coefficients (goal_terms form.columns (length form.rows) form.goal) j)
+                ∙ sym (ap (λ c. cond c (coefficients (goal_terms form.columns (length form.rows) form.goal)) (coefficients (row_terms form.columns (length form.rows) k (row_at form k))) j) (eq-eqb k (length form.rows) e))
+          | inr e ↦
+                (q.each.row k (omega arith)).each j ∙ one_mul (coefficients (row_terms form.columns (length form.rows) k (row_at form k)) j)
+                ∙ sym (ap (λ c. cond c (coefficients (goal_terms form.columns (length form.rows) form.goal)) (coefficients (row_terms form.columns (length form.rows) k (row_at form k))) j) (ne_eqb k (length form.rows) e)) ];
+}
+
+pub made_shape : (form : Standard) (columns height : ℕ) (rows : List (List ℤ)) → height ≡ length form.rows → AreFirst columns form.rows form.goal rows → IsRectangle (columns + height + 3) rows
+made_shape form columns height rows he r = record { each = λ i l. elim (cases_eq i (length form.rows)) as (λ _. length (slice_index_or rows i []) ≡ columns + height + 3) [
+    inl e ↦ let g = r.goal_size in ap (λ k. length (slice_index_or rows k [])) e ∙ g ∙ ap (λ h. columns + h + 3) (sym he)
+  | inr e ↦ let n = r.count in r.each.size i (omega arith) ∙ ap (λ h. columns + h + 3) (sym he) ] }
