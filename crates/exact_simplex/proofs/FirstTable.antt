@@ -42,10 +42,10 @@ all_at p [] i d l h = absurd (omega arith)
 all_at p (x ∷ xs) zero d l h = (and_parts (p x) (list_all p xs) h).0
 all_at p (x ∷ xs) (suc i) d l h = all_at p xs i d (omega arith) (and_parts (p x) (list_all p xs) h).1
 
-on : (k j : ℕ) (a : ℤ) → k ≡ j → cond (k == j) a (pos 0) ≡ a
+pub on : (k j : ℕ) (a : ℤ) → k ≡ j → cond (k == j) a (pos 0) ≡ a
 on k j a e = ap (λ b. cond b a (pos 0)) (eq-eqb k j e)
 
-off : (k j : ℕ) (a : ℤ) → k ≢ j → cond (k == j) a (pos 0) ≡ pos 0
+pub off : (k j : ℕ) (a : ℤ) → k ≢ j → cond (k == j) a (pos 0) ≡ pos 0
 off k j a d = ap (λ b. cond b a (pos 0)) (ne_eqb k j d)
 
 module _ (form : Standard) (ok : is_standard form ≡ true) (t : Table) (f : IsFirstTable form t) where
@@ -167,6 +167,7 @@ module _ (form : Standard) (ok : is_standard form ≡ true) (t : Table) (f : IsF
 
   pub first_tableau : IsTableauOf form t
   first_tableau = record {
+      standard = ok;
       columns = f.columns;
       height = f.height;
       tableau = record {

@@ -8,3 +8,4 @@ pub mod Runs
 pub mod Filling
 pub mod FirstRows
 pub mod FirstTable
+pub mod Certificates

@@ -7,7 +7,7 @@ use Rattle.lp_rows.specs.Holding.{ids_below}
 use Rattle.lp_rows.specs.Rows.{ascends_from}
 use Rattle.lp_frame.specs.declared.force.AtMost.{AtMost}
 use Rattle.lp_frame.specs.Force.{is_narrow}
-use Rattle.lp_frame.specs.Standard.{Standard}
+use Rattle.lp_frame.specs.Standard.{Standard, is_standard}
 use Rattle.exact_simplex.specs.Table.{Table, IsTableauFor, unit, width, entry, basic}
 
 -- row k as an equation: its own terms, 1 at its slack, -1 at the artificial where its bound is negative, and the
@@ -32,6 +32,7 @@ equation_of form k =
 
 -- t is the tableau of its basis for the standard form
 pub record IsTableauOf (form : Standard) (t : Table) : Type 0 where
+  pub standard : is_standard form ≡ true
   pub columns : t.columns ≡ form.columns
   pub height : t.height ≡ length form.rows
   pub tableau : IsTableauFor (equation_of form) t
