@@ -283,3 +283,7 @@ infeasible_refutes form t s tab e =
     not_false : (b : Bool) → not b ≡ false → b ≡ true
     not_false true q = refl
     not_false false q = absurd (cc)
+
+-- at an optimal tableau, of whatever equations, the scale is positive
+pub scale_positive : (t : Table) → IsSound t → pos 0 <ℤ entry t t.height (scale t)
+scale_positive t s = subst (λ j. pos 0 <ℤ entry t t.height j) s.goal (s.canonical.positive t.height (omega arith))

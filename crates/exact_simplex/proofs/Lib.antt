@@ -9,3 +9,4 @@ pub mod Filling
 pub mod FirstRows
 pub mod FirstTable
 pub mod Certificates
+pub mod Fractions
