@@ -101,7 +101,7 @@ module _ (form : Standard) (ok : is_standard form ≡ true) where
       let p = standard_parts form ok in
       let sum = coefficients-append (scaled (negsuc 0) form.goal) ((form.columns + length form.rows + 2, pos 1) ∷ []) j in
       let none : coefficients (scaled (negsuc 0) form.goal) j ≡ pos 0 =
-          coefficients-scaled (negsuc 0) form.goal j ∙ ap (λ z. negsuc 0 *ℤ z) (past_ids form.columns form.goal j (terms_below form.columns form.goal p.goal) (omega arith)) ∙ mul_zero (negsuc 0) in
+      coefficients-scaled (negsuc 0) form.goal j ∙ ap (λ z. negsuc 0 *ℤ z) (past_ids form.columns form.goal j (terms_below form.columns form.goal p.goal) (omega arith)) ∙ mul_zero (negsuc 0) in
       let o = off (form.columns + length form.rows + 2) j (pos 1) (omega arith) in
       let is = goal_equation j in
       omega (arith, ints)
@@ -121,12 +121,12 @@ module _ (form : Standard) (t : Table) (s : IsSound t) (tab : IsTableauOf form t
       let c = tab.tableau.span.combination d inside j w in
       let e : t.height + 1 ≡ suc t.height = omega arith in
       let whole : entry t d j ≡ total t.height (λ k. entry t d (unit t k) *ℤ in_force t (equation_of form) k j) +ℤ entry t d (unit t t.height) *ℤ in_force t (equation_of form) t.height j =
-          c ∙ ap (λ m. total m (λ k. entry t d (unit t k) *ℤ in_force t (equation_of form) k j)) e in
+      c ∙ ap (λ m. total m (λ k. entry t d (unit t k) *ℤ in_force t (equation_of form) k j)) e in
       let rows : total t.height (λ k. entry t d (unit t k) *ℤ in_force t (equation_of form) k j) ≡ inner t.height (λ k. entry t d (slack t k)) (λ k. equation_of form k j) =
-          total_same t.height (λ k. entry t d (unit t k) *ℤ in_force t (equation_of form) k j) (λ k. entry t d (slack t k) *ℤ equation_of form k j)
-              (λ k l. ap (λ z. z *ℤ in_force t (equation_of form) k j) (ap (entry t d) (ap (λ b. cond b (scale t) (slack t k)) (ne_eqb k t.height (omega arith)))) ∙ ap (λ z. entry t d (slack t k) *ℤ z) (in_force_else k j n)) in
+      total_same t.height (λ k. entry t d (unit t k) *ℤ in_force t (equation_of form) k j) (λ k. entry t d (slack t k) *ℤ equation_of form k j)
+      (λ k l. ap (λ z. z *ℤ in_force t (equation_of form) k j) (ap (entry t d) (ap (λ b. cond b (scale t) (slack t k)) (ne_eqb k t.height (omega arith)))) ∙ ap (λ z. entry t d (slack t k) *ℤ z) (in_force_else k j n)) in
       let last : entry t d (unit t t.height) *ℤ in_force t (equation_of form) t.height j ≡ entry t d (scale t) *ℤ equation_of form t.height j =
-          ap (λ z. z *ℤ in_force t (equation_of form) t.height j) (ap (entry t d) (ap (λ b. cond b (scale t) (slack t t.height)) (eq-eqb t.height t.height refl))) ∙ ap (λ z. entry t d (scale t) *ℤ z) (in_force_else t.height j n) in
+      ap (λ z. z *ℤ in_force t (equation_of form) t.height j) (ap (entry t d) (ap (λ b. cond b (scale t) (slack t t.height)) (eq-eqb t.height t.height refl))) ∙ ap (λ z. entry t d (scale t) *ℤ z) (in_force_else t.height j n) in
       whole ∙ ap (λ z. z +ℤ entry t d (unit t t.height) *ℤ in_force t (equation_of form) t.height j) rows ∙ ap (λ z. inner t.height (λ k. entry t d (slack t k)) (λ k. equation_of form k j) +ℤ z) last
 
   -- what the rows have together in a structural column
@@ -136,9 +136,9 @@ module _ (form : Standard) (t : Table) (s : IsSound t) (tab : IsTableauOf form t
       let b = tab.height in
       let slacks : ℕ → ℤ = λ k. entry t d (slack t k) in
       let there : combined form (entries_of t.height (λ k. neg_ℤ (entry t d (slack t k)))) j ≡ neg_ℤ (inner t.height (λ k. entry t d (slack t k)) (λ k. coefficients (row_at form k).terms j)) =
-          dot-entries_of t.height (λ k. neg_ℤ (entry t d (slack t k))) (λ k. coefficients (row_at form k).terms j) ∙ inner_neg t.height slacks (λ k. coefficients (row_at form k).terms j) in
+      dot-entries_of t.height (λ k. neg_ℤ (entry t d (slack t k))) (λ k. coefficients (row_at form k).terms j) ∙ inner_neg t.height slacks (λ k. coefficients (row_at form k).terms j) in
       let same : inner t.height (λ k. entry t d (slack t k)) (λ k. coefficients (row_at form k).terms j) ≡ inner t.height (λ k. entry t d (slack t k)) (λ k. equation_of form k j) =
-          inner_same_at t.height slacks (λ k. coefficients (row_at form k).terms j) (λ k. equation_of form k j) (λ k q. sym (row_inner form tab.standard k j (omega arith) l)) in
+      inner_same_at t.height slacks (λ k. coefficients (row_at form k).terms j) (λ k. equation_of form k j) (λ k q. sym (row_inner form tab.standard k j (omega arith) l)) in
       let goal : equation_of form t.height j ≡ neg_ℤ (coefficients form.goal j) = ap (λ k. equation_of form k j) b ∙ goal_inner form tab.standard j l in
       let whole = combination_is j (omega arith) (λ e. omega arith) in
       let turned : entry t d (scale t) *ℤ equation_of form t.height j ≡ neg_ℤ (entry t d (scale t) *ℤ coefficients form.goal j) = ap (λ z. entry t d (scale t) *ℤ z) goal ∙ mul_neg (entry t d (scale t)) (coefficients form.goal j) in
@@ -151,9 +151,9 @@ module _ (form : Standard) (t : Table) (s : IsSound t) (tab : IsTableauOf form t
       let b = tab.height in
       let slacks : ℕ → ℤ = λ k. entry t d (slack t k) in
       let there : combined_bound form (entries_of t.height (λ k. neg_ℤ (entry t d (slack t k)))) ≡ neg_ℤ (inner t.height (λ k. entry t d (slack t k)) (λ k. (row_at form k).bound)) =
-          dot-entries_of t.height (λ k. neg_ℤ (entry t d (slack t k))) (λ k. (row_at form k).bound) ∙ inner_neg t.height slacks (λ k. (row_at form k).bound) in
+      dot-entries_of t.height (λ k. neg_ℤ (entry t d (slack t k))) (λ k. (row_at form k).bound) ∙ inner_neg t.height slacks (λ k. (row_at form k).bound) in
       let same : inner t.height (λ k. entry t d (slack t k)) (λ k. (row_at form k).bound) ≡ inner t.height (λ k. entry t d (slack t k)) (λ k. equation_of form k (right t)) =
-          inner_same_at t.height slacks (λ k. (row_at form k).bound) (λ k. equation_of form k (right t)) (λ k q. sym (row_right form tab.standard k (right t) (omega arith) (omega arith))) in
+      inner_same_at t.height slacks (λ k. (row_at form k).bound) (λ k. equation_of form k (right t)) (λ k q. sym (row_right form tab.standard k (right t) (omega arith) (omega arith))) in
       let goal : equation_of form t.height (right t) ≡ pos 0 = ap (λ k. equation_of form k (right t)) b ∙ goal_right form tab.standard (right t) (omega arith) in
       let whole = combination_is (right t) (omega arith) (λ e. omega arith) in
       let gone : entry t d (scale t) *ℤ equation_of form t.height (right t) ≡ pos 0 = ap (λ z. entry t d (scale t) *ℤ z) goal ∙ mul_zero (entry t d (scale t)) in
@@ -164,12 +164,13 @@ module _ (form : Standard) (t : Table) (s : IsSound t) (tab : IsTableauOf form t
   nothing_left h g j w =
       tab.tableau.span.combination d inside j w
       ∙ total_zero (t.height + 1) (λ k. entry t d (unit t k) *ℤ in_force t (equation_of form) k j)
-          (λ k l. ap (λ z. z *ℤ in_force t (equation_of form) k j) (unit_zero k l) ∙ zero_mul (in_force t (equation_of form) k j))
+      (λ k l. ap (λ z. z *ℤ in_force t (equation_of form) k j) (unit_zero k l) ∙ zero_mul (in_force t (equation_of form) k j))
     where
       unit_zero : (k : ℕ) → k < t.height + 1 → entry t d (unit t k) ≡ pos 0
       unit_zero k l = elim (cases_eq k t.height) as (λ _. entry t d (unit t k) ≡ pos 0) [
-          inl e ↦ ap (entry t d) (ap (λ b. cond b (scale t) (slack t k)) (eq-eqb k t.height e)) ∙ g
-        | inr e ↦ ap (entry t d) (ap (λ b. cond b (scale t) (slack t k)) (ne_eqb k t.height e)) ∙ h k (omega arith) ]
+        | inl e ↦ ap (entry t d) (ap (λ b. cond b (scale t) (slack t k)) (eq-eqb k t.height e)) ∙ g
+        | inr e ↦ ap (entry t d) (ap (λ b. cond b (scale t) (slack t k)) (ne_eqb k t.height e)) ∙ h k (omega arith)
+      ]
 
 -- what is so where no exchange is due and the goal row, or the artificial's, has stopped
 pub record HasStopped (t : Table) : Type 0 where
@@ -182,20 +183,26 @@ stopped t m e w = start (starting_row t) refl e
   where
     no : (a b : ℕ) → Exchange a b ≡ m → ⊥
     no a b q = elim w as (λ _. ⊥) [ inl x ↦ cc | inr x ↦ cc ]
+
     nor : (a : ℕ) → Unbounded a ≡ m → ⊥
     nor a q = elim w as (λ _. ⊥) [ inl x ↦ cc | inr x ↦ cc ]
+
     leaving : (c : ℕ) (o : Option ℕ) → leaving_move t c o ≡ m → ⊥
     leaving c None q = nor c q
     leaving c (Some row) q = no c (basic t row) q
+
     entering : starting_row t ≡ None → ((is_spent t ≡ false) ⊎ (exit_column t ≡ None)) → (o : Option ℕ) → entering_column t ≡ o → entering_move t o ≡ m → HasStopped t × (cond (driving_row t == t.height) Optimal Infeasible ≡ m)
     entering n s None eo q = (record { none = n; stopped = eo; spent = s }, q)
     entering n s (Some c) eo q = absurd (leaving c (leaving_row t c) q)
+
     exiting : starting_row t ≡ None → (o : Option ℕ) → exit_column t ≡ o → exit_move t o ≡ m → HasStopped t × (cond (driving_row t == t.height) Optimal Infeasible ≡ m)
     exiting n None eo q = entering n (inr eo) (entering_column t) refl q
     exiting n (Some c) eo q = absurd (no c (artificial t) q)
+
     driven : starting_row t ≡ None → (b : Bool) → is_spent t ≡ b → driven_move t b ≡ m → HasStopped t × (cond (driving_row t == t.height) Optimal Infeasible ≡ m)
     driven n true eb q = exiting n (exit_column t) refl q
     driven n false eb q = entering n (inl eb) (entering_column t) refl q
+
     start : (o : Option ℕ) → starting_row t ≡ o → first_move t o ≡ m → HasStopped t × (cond (driving_row t == t.height) Optimal Infeasible ≡ m)
     start None eo q = driven eo (is_spent t) refl q
     start (Some row) eo q = absurd (no (artificial t) (basic t row) q)
@@ -223,7 +230,7 @@ signs_at : (form : Standard) (t : Table) → IsTableauOf form t → entering_col
 signs_at form t tab e =
     let b = tab.height in
     all_entries t.height (length form.rows) (λ k. neg_ℤ (entry t (driving_row t) (slack t k))) (omega arith)
-        (λ k l. let q = driving_le t e (slack t k) (omega arith) in omega (arith, ints))
+    (λ k l. let q = driving_le t e (slack t k) (omega arith) in omega (arith, ints))
 
 pub optimal_bounds : (form : Standard) (t : Table) → IsSound t → IsTableauOf form t → bland_move t ≡ Optimal → BoundsForm form (right_side t t.height) (entry t t.height (scale t)) (multipliers_of t)
 optimal_bounds form t s tab e =
@@ -231,15 +238,15 @@ optimal_bounds form t s tab e =
     let drives : driving_row t ≡ t.height = optimal_drives t e in
     let inside : driving_row t < t.height + 1 = omega arith in
     record {
-        positive = ap_positive t s;
-        signs = signs_at form t tab st.stopped;
-        columns = λ j l.
-            let a = tab.columns in
-            let sum = combined_is form t s tab (driving_row t) inside j l in
-            let le = driving_le t st.stopped j (omega arith) in
-            let same : entry t (driving_row t) (scale t) *ℤ coefficients form.goal j ≡ entry t t.height (scale t) *ℤ coefficients form.goal j = ap (λ d. entry t d (scale t) *ℤ coefficients form.goal j) drives in
-            omega (arith, ints);
-        bound = bound_is form t s tab (driving_row t) inside ∙ ap (λ d. neg_ℤ (right_side t d)) drives;
+      positive = ap_positive t s;
+      signs = signs_at form t tab st.stopped;
+      columns = λ j l.
+          let a = tab.columns in
+          let sum = combined_is form t s tab (driving_row t) inside j l in
+          let le = driving_le t st.stopped j (omega arith) in
+          let same : entry t (driving_row t) (scale t) *ℤ coefficients form.goal j ≡ entry t t.height (scale t) *ℤ coefficients form.goal j = ap (λ d. entry t d (scale t) *ℤ coefficients form.goal j) drives in
+          omega (arith, ints);
+      bound = bound_is form t s tab (driving_row t) inside ∙ ap (λ d. neg_ℤ (right_side t d)) drives;
     }
   where
     ap_positive : (t : Table) → IsSound t → pos 0 <ℤ entry t t.height (scale t)
@@ -254,32 +261,35 @@ infeasible_refutes form t s tab e =
     let no_scale : entry t (driving_row t) (scale t) ≡ pos 0 = ap (entry t (driving_row t)) (sym s.goal) ∙ s.canonical.zeros (driving_row t) t.height inside (omega arith) (omega arith) in
     let above : pos 0 ≤ℤ right_side t (driving_row t) = none_negative t st.none (driving_row t) within in
     let some : right_side t (driving_row t) ≢ pos 0 = elim st.spent as (λ _. right_side t (driving_row t) ≢ pos 0) [
-        inl q ↦ ne_from (right_side t (driving_row t)) (pos 0) (second_false (not (driving_row t == t.height)) (int_eq (right_side t (driving_row t)) (pos 0)) (not_eq (driving_row t) t.height (infeasible_drives t e)) q)
+      | inl q ↦ ne_from (right_side t (driving_row t)) (pos 0) (second_false (not (driving_row t == t.height)) (int_eq (right_side t (driving_row t)) (pos 0)) (not_eq (driving_row t) t.height (infeasible_drives t e)) q)
       | inr q ↦ λ z. absurd (
-            let slacks : (k : ℕ) → k < t.height → entry t (driving_row t) (slack t k) ≡ pos 0 =
-                λ k l. eq_from (entry t (driving_row t) (slack t k)) (pos 0) (not_false (int_eq (entry t (driving_row t) (slack t k)) (pos 0)) (first_none (t.columns + t.height) (λ j. not (int_eq (entry t (driving_row t) j) (pos 0))) q (slack t k) (omega arith))) in
-            let own : pos 0 <ℤ entry t (driving_row t) (basic t (driving_row t)) = s.canonical.positive (driving_row t) inside in
-            let gone : entry t (driving_row t) (basic t (driving_row t)) ≡ pos 0 = nothing_left form t s tab (driving_row t) inside slacks no_scale (basic t (driving_row t)) (s.canonical.within (driving_row t) inside) in
-            omega (arith, ints)) ] in
+          let slacks : (k : ℕ) → k < t.height → entry t (driving_row t) (slack t k) ≡ pos 0 =
+          λ k l. eq_from (entry t (driving_row t) (slack t k)) (pos 0) (not_false (int_eq (entry t (driving_row t) (slack t k)) (pos 0)) (first_none (t.columns + t.height) (λ j. not (int_eq (entry t (driving_row t) j) (pos 0))) q (slack t k) (omega arith))) in
+          let own : pos 0 <ℤ entry t (driving_row t) (basic t (driving_row t)) = s.canonical.positive (driving_row t) inside in
+          let gone : entry t (driving_row t) (basic t (driving_row t)) ≡ pos 0 = nothing_left form t s tab (driving_row t) inside slacks no_scale (basic t (driving_row t)) (s.canonical.within (driving_row t) inside) in
+          omega (arith, ints))
+    ] in
     record {
-        signs = signs_at form t tab st.stopped;
-        columns = λ j l.
-            let a = tab.columns in
-            let sum = combined_is form t s tab (driving_row t) inside j l in
-            let le = driving_le t st.stopped j (omega arith) in
-            let gone : entry t (driving_row t) (scale t) *ℤ coefficients form.goal j ≡ pos 0 = ap (λ z. z *ℤ coefficients form.goal j) no_scale ∙ zero_mul (coefficients form.goal j) in
-            omega (arith, ints);
-        negative =
-            let sum = bound_is form t s tab (driving_row t) inside in
-            let more : pos 0 <ℤ right_side t (driving_row t) = by_lt_z (pos 0) (right_side t (driving_row t)) (λ x. x) (λ x. absurd (some (omega (arith, ints)))) in
-            omega (arith, ints);
+      signs = signs_at form t tab st.stopped;
+      columns = λ j l.
+          let a = tab.columns in
+          let sum = combined_is form t s tab (driving_row t) inside j l in
+          let le = driving_le t st.stopped j (omega arith) in
+          let gone : entry t (driving_row t) (scale t) *ℤ coefficients form.goal j ≡ pos 0 = ap (λ z. z *ℤ coefficients form.goal j) no_scale ∙ zero_mul (coefficients form.goal j) in
+          omega (arith, ints);
+      negative =
+          let sum = bound_is form t s tab (driving_row t) inside in
+          let more : pos 0 <ℤ right_side t (driving_row t) = by_lt_z (pos 0) (right_side t (driving_row t)) (λ x. x) (λ x. absurd (some (omega (arith, ints)))) in
+          omega (arith, ints);
     }
   where
     second_false : (a b : Bool) → a ≡ true → (a && b) ≡ false → b ≡ false
     second_false true b p q = q
     second_false false b p q = absurd (cc)
+
     not_eq : (a b : ℕ) → a ≢ b → not (a == b) ≡ true
     not_eq a b n = ap not (ne_eqb a b n)
+
     not_false : (b : Bool) → not b ≡ false → b ≡ true
     not_false true q = refl
     not_false false q = absurd (cc)

@@ -85,36 +85,42 @@ best_some (suc n) passes goes_before i o e = go (best_below n passes goes_before
     -- the new place takes over
     newly : (m : ℕ) → IsBest n passes goes_before m → passes n ≡ true → goes_before n m ≡ true → IsBest (suc n) passes goes_before n
     newly m b p x = record {
-        within = omega arith;
-        passed = p;
-        best = λ k l q. elim (cases_eq k n) as (λ _. goes_before k n ≡ false) [
-            inl s ↦ ap (λ z. goes_before z n) s ∙ o.itself n p
-          | inr s ↦ falsely (goes_before k n) (λ t. both (b.best k (omega arith) q) (o.through k n m q p b.passed t x)) ];
+      within = omega arith;
+      passed = p;
+      best = λ k l q. elim (cases_eq k n) as (λ _. goes_before k n ≡ false) [
+        | inl s ↦ ap (λ z. goes_before z n) s ∙ o.itself n p
+        | inr s ↦ falsely (goes_before k n) (λ t. both (b.best k (omega arith) q) (o.through k n m q p b.passed t x))
+      ];
     }
       where
         both : {a : Bool} → a ≡ false → a ≡ true → ⊥
         both x y = cc
+
         falsely : (a : Bool) → (a ≡ true → ⊥) → a ≡ false
         falsely true h = absurd (h refl)
         falsely false h = refl
+
     -- the old place stays
     still : (m : ℕ) → IsBest n passes goes_before m → (passes n ≡ true → goes_before n m ≡ false) → IsBest (suc n) passes goes_before m
     still m b h = record {
-        within = let l = b.within in omega arith;
-        passed = b.passed;
-        best = λ k l q. elim (cases_eq k n) as (λ _. goes_before k m ≡ false) [
-            inl s ↦ ap (λ z. goes_before z m) s ∙ h (ap passes (sym s) ∙ q)
-          | inr s ↦ b.best k (omega arith) q ];
+      within = let l = b.within in omega arith;
+      passed = b.passed;
+      best = λ k l q. elim (cases_eq k n) as (λ _. goes_before k m ≡ false) [
+        | inl s ↦ ap (λ z. goes_before z m) s ∙ h (ap passes (sym s) ∙ q)
+        | inr s ↦ b.best k (omega arith) q
+      ];
     }
+
     go : (r : Option ℕ) → best_below n passes goes_before ≡ r → (b : Bool) → passes n ≡ b → better r b (goes_before n) n ≡ Some i → ((m : ℕ) → best_below n passes goes_before ≡ Some m → IsBest n passes goes_before m) → IsBest (suc n) passes goes_before i
     go None er true eb e rec =
         let same : n ≡ i = cc in
         subst (λ z. IsBest (suc n) passes goes_before z) same (record {
-            within = omega arith;
-            passed = eb;
-            best = λ k l q. elim (cases_eq k n) as (λ _. goes_before k n ≡ false) [
-                inl s ↦ ap (λ z. goes_before z n) s ∙ o.itself n eb
-              | inr s ↦ absurd (let none = best_none n passes goes_before er k (omega arith) in cc) ];
+          within = omega arith;
+          passed = eb;
+          best = λ k l q. elim (cases_eq k n) as (λ _. goes_before k n ≡ false) [
+            | inl s ↦ ap (λ z. goes_before z n) s ∙ o.itself n eb
+            | inr s ↦ absurd (let none = best_none n passes goes_before er k (omega arith) in cc)
+          ];
         })
     go None er false eb e rec = absurd (cc)
     go (Some m) er false eb e rec =

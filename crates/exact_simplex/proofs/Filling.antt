@@ -26,13 +26,13 @@ pub record IsFilling (sign : ℤ) (width : ℕ) (terms : List (ℕ × ℤ)) (i :
 
 pub filling_none : (sign : ℤ) (width : ℕ) (terms : List (ℕ × ℤ)) (row : List ℤ) → ((j : ℕ) → at row j ≡ pos 0) → ascends_from 0 terms ≡ true → ids_below width terms ≡ true → list_all (λ t. is_narrow t.1) terms ≡ true → length row ≡ width → IsFilling sign width terms 0 row
 filling_none sign width terms row z a b n s = record {
-    least = 0;
-    written = λ j. z j ∙ sym (mul_zero sign);
-    free = λ j l. refl;
-    ascends = a;
-    below = b;
-    narrow = n;
-    size = s;
+  least = 0;
+  written = λ j. z j ∙ sym (mul_zero sign);
+  free = λ j l. refl;
+  ascends = a;
+  below = b;
+  narrow = n;
+  size = s;
 }
 
 -- the next term
@@ -60,47 +60,53 @@ module _ (sign : ℤ) (width : ℕ) (terms : List (ℕ × ℤ)) (i : ℕ) (row :
       let within : t.0 < width = ltb-true t.0 width b.0 in
       let size = f.size in
       record {
-          least = suc t.0;
-          written = λ j. elim (cases_eq j t.0) as (λ _. at (set row t.0 (sign *ℤ t.1)) j ≡ sign *ℤ coefficients (take (i + 1) terms) j) [
-              inl e ↦
-                  let here : at (set row t.0 (sign *ℤ t.1)) t.0 ≡ sign *ℤ t.1 = get_or-set_same row t.0 (sign *ℤ t.1) (pos 0) (omega arith) in
-                  let now : coefficients (take (i + 1) terms) j ≡ t.1 = more j ∙ sum_is (f.free j (omega arith)) (on j (sym e)) in
-                  ap (at (set row t.0 (sign *ℤ t.1))) e ∙ here ∙ ap (λ z. sign *ℤ z) (sym now)
-            | inr e ↦
-                  let now : coefficients (take (i + 1) terms) j ≡ coefficients (take i terms) j = more j ∙ sum_zero (off j (λ q. e (sym q))) in
-                  get_or-set_other row t.0 j (sign *ℤ t.1) (pos 0) e ∙ f.written j ∙ ap (λ z. sign *ℤ z) (sym now) ];
-          free = λ j q.
-              let before : coefficients (take i terms) j ≡ pos 0 = f.free j (omega arith) in
-              let none : cond ((get_or terms i past).0 == j) (get_or terms i past).1 (pos 0) ≡ pos 0 = off j (omega arith) in
-              more j ∙ sum_is before none;
-          ascends = a.1;
-          below = b.1;
-          narrow = n.1;
-          size = length-set row t.0 (sign *ℤ t.1) ∙ f.size;
+        least = suc t.0;
+        written = λ j. elim (cases_eq j t.0) as (λ _. at (set row t.0 (sign *ℤ t.1)) j ≡ sign *ℤ coefficients (take (i + 1) terms) j) [
+          | inl e ↦
+              let here : at (set row t.0 (sign *ℤ t.1)) t.0 ≡ sign *ℤ t.1 = get_or-set_same row t.0 (sign *ℤ t.1) (pos 0) (omega arith) in
+              let now : coefficients (take (i + 1) terms) j ≡ t.1 = more j ∙ sum_is (f.free j (omega arith)) (on j (sym e)) in
+              ap (at (set row t.0 (sign *ℤ t.1))) e ∙ here ∙ ap (λ z. sign *ℤ z) (sym now)
+          | inr e ↦
+              let now : coefficients (take (i + 1) terms) j ≡ coefficients (take i terms) j = more j ∙ sum_zero (off j (λ q. e (sym q))) in
+              get_or-set_other row t.0 j (sign *ℤ t.1) (pos 0) e ∙ f.written j ∙ ap (λ z. sign *ℤ z) (sym now)
+        ];
+        free = λ j q.
+            let before : coefficients (take i terms) j ≡ pos 0 = f.free j (omega arith) in
+            let none : cond ((get_or terms i past).0 == j) (get_or terms i past).1 (pos 0) ≡ pos 0 = off j (omega arith) in
+            more j ∙ sum_is before none;
+        ascends = a.1;
+        below = b.1;
+        narrow = n.1;
+        size = length-set row t.0 (sign *ℤ t.1) ∙ f.size;
       }
     where
       more : (j : ℕ) → coefficients (take (i + 1) terms) j ≡ coefficients (take i terms) j +ℤ (cond ((get_or terms i past).0 == j) (get_or terms i past).1 (pos 0) +ℤ pos 0)
       more j = ap (λ ts. coefficients ts j) (take_more terms i past l) ∙ coefficients-append (take i terms) (get_or terms i past ∷ []) j
+
       sum_is : {x y z : ℤ} → x ≡ pos 0 → y ≡ z → x +ℤ (y +ℤ pos 0) ≡ z
       sum_is p q = omega (arith, ints)
+
       sum_zero : {x y : ℤ} → y ≡ pos 0 → x +ℤ (y +ℤ pos 0) ≡ x
       sum_zero q = omega (arith, ints)
+
       on : (j : ℕ) → (get_or terms i past).0 ≡ j → cond ((get_or terms i past).0 == j) (get_or terms i past).1 (pos 0) ≡ (get_or terms i past).1
       on j e = ap (λ b. cond b (get_or terms i past).1 (pos 0)) (eq-eqb (get_or terms i past).0 j e)
+
       off : (j : ℕ) → (get_or terms i past).0 ≢ j → cond ((get_or terms i past).0 == j) (get_or terms i past).1 (pos 0) ≡ pos 0
       off j d = ap (λ b. cond b (get_or terms i past).1 (pos 0)) (ne_eqb (get_or terms i past).0 j d)
 
 -- a row of terms, with one term more at a place where it has 0
 pub row_with : (terms : List (ℕ × ℤ)) (row : List ℤ) (column : ℕ) (value : ℤ) → column < length row → ((j : ℕ) → at row j ≡ coefficients terms j) → coefficients terms column ≡ pos 0 → (j : ℕ) → at (set row column value) j ≡ coefficients (terms ++ (column, value) ∷ []) j
 row_with terms row column value l h z j = elim (cases_eq j column) as (λ _. at (set row column value) j ≡ coefficients (terms ++ (column, value) ∷ []) j) [
-    inl e ↦
-        let on : cond (column == j) value (pos 0) ≡ value = ap (λ b. cond b value (pos 0)) (eq-eqb column j (sym e)) in
-        let before : coefficients terms j ≡ pos 0 = ap (coefficients terms) e ∙ z in
-        let sum = coefficients-append terms ((column, value) ∷ []) j in
-        let here : at (set row column value) j ≡ value = ap (at (set row column value)) e ∙ get_or-set_same row column value (pos 0) l in
-        omega (arith, ints)
+  | inl e ↦
+      let on : cond (column == j) value (pos 0) ≡ value = ap (λ b. cond b value (pos 0)) (eq-eqb column j (sym e)) in
+      let before : coefficients terms j ≡ pos 0 = ap (coefficients terms) e ∙ z in
+      let sum = coefficients-append terms ((column, value) ∷ []) j in
+      let here : at (set row column value) j ≡ value = ap (at (set row column value)) e ∙ get_or-set_same row column value (pos 0) l in
+      omega (arith, ints)
   | inr e ↦
-        let off : cond (column == j) value (pos 0) ≡ pos 0 = ap (λ b. cond b value (pos 0)) (ne_eqb column j (λ q. e (sym q))) in
-        let sum = coefficients-append terms ((column, value) ∷ []) j in
-        let there : at (set row column value) j ≡ coefficients terms j = get_or-set_other row column j value (pos 0) e ∙ h j in
-        omega (arith, ints) ]
+      let off : cond (column == j) value (pos 0) ≡ pos 0 = ap (λ b. cond b value (pos 0)) (ne_eqb column j (λ q. e (sym q))) in
+      let sum = coefficients-append terms ((column, value) ∷ []) j in
+      let there : at (set row column value) j ≡ coefficients terms j = get_or-set_other row column j value (pos 0) e ∙ h j in
+      omega (arith, ints)
+]

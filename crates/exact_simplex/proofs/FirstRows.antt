@@ -43,29 +43,29 @@ without_term ts column value j z d =
     omega (arith, ints)
 
 pub first_row_is : (c h k : ℕ) (ts : List (ℕ × ℤ)) (x b : ℤ) (row : List ℤ) → length row ≡ c + h + 3 → k < h → ids_below c ts ≡ true → IsRowOf (pos 1) ts (at row)
-  → IsRowOf (pos 1) (ts ++ (c + k, pos 1) ∷ (c + h, x) ∷ (c + h + 1, b) ∷ []) (at (set (set (set row (c + k) (pos 1)) (c + h) x) (c + h + 1) b))
+    → IsRowOf (pos 1) (ts ++ (c + k, pos 1) ∷ (c + h, x) ∷ (c + h + 1, b) ∷ []) (at (set (set (set row (c + k) (pos 1)) (c + h) x) (c + h + 1) b))
 first_row_is c h k ts x b row size l below r =
     let one : (j : ℕ) → at (set row (c + k) (pos 1)) j ≡ coefficients (ts ++ (c + k, pos 1) ∷ []) j =
-        row_with ts row (c + k) (pos 1) (omega arith) (λ j. r.each j ∙ one_mul (coefficients ts j)) (past_ids c ts (c + k) below (omega arith)) in
+    row_with ts row (c + k) (pos 1) (omega arith) (λ j. r.each j ∙ one_mul (coefficients ts j)) (past_ids c ts (c + k) below (omega arith)) in
     let size1 = length-set row (c + k) (pos 1) in
     let two : (j : ℕ) → at (set (set row (c + k) (pos 1)) (c + h) x) j ≡ coefficients ((ts ++ (c + k, pos 1) ∷ []) ++ (c + h, x) ∷ []) j =
-        row_with (ts ++ (c + k, pos 1) ∷ []) (set row (c + k) (pos 1)) (c + h) x (omega arith) one
-            (without_term ts (c + k) (pos 1) (c + h) (past_ids c ts (c + h) below (omega arith)) (omega arith)) in
+    row_with (ts ++ (c + k, pos 1) ∷ []) (set row (c + k) (pos 1)) (c + h) x (omega arith) one
+    (without_term ts (c + k) (pos 1) (c + h) (past_ids c ts (c + h) below (omega arith)) (omega arith)) in
     let size2 = length-set (set row (c + k) (pos 1)) (c + h) x in
     let three : (j : ℕ) → at (set (set (set row (c + k) (pos 1)) (c + h) x) (c + h + 1) b) j ≡ coefficients (((ts ++ (c + k, pos 1) ∷ []) ++ (c + h, x) ∷ []) ++ (c + h + 1, b) ∷ []) j =
-        row_with ((ts ++ (c + k, pos 1) ∷ []) ++ (c + h, x) ∷ []) (set (set row (c + k) (pos 1)) (c + h) x) (c + h + 1) b (omega arith) two
-            (without_term (ts ++ (c + k, pos 1) ∷ []) (c + h) x (c + h + 1)
-                (without_term ts (c + k) (pos 1) (c + h + 1) (past_ids c ts (c + h + 1) below (omega arith)) (omega arith)) (omega arith)) in
+    row_with ((ts ++ (c + k, pos 1) ∷ []) ++ (c + h, x) ∷ []) (set (set row (c + k) (pos 1)) (c + h) x) (c + h + 1) b (omega arith) two
+    (without_term (ts ++ (c + k, pos 1) ∷ []) (c + h) x (c + h + 1)
+    (without_term ts (c + k) (pos 1) (c + h + 1) (past_ids c ts (c + h + 1) below (omega arith)) (omega arith)) (omega arith)) in
     let grouped : ((ts ++ (c + k, pos 1) ∷ []) ++ (c + h, x) ∷ []) ++ (c + h + 1, b) ∷ [] ≡ ts ++ (c + k, pos 1) ∷ (c + h, x) ∷ (c + h + 1, b) ∷ [] =
-        ap (λ us. us ++ (c + h + 1, b) ∷ []) (append_assoc ts ((c + k, pos 1) ∷ []) ((c + h, x) ∷ []))
-        ∙ append_assoc ts ((c + k, pos 1) ∷ (c + h, x) ∷ []) ((c + h + 1, b) ∷ []) in
+    ap (λ us. us ++ (c + h + 1, b) ∷ []) (append_assoc ts ((c + k, pos 1) ∷ []) ((c + h, x) ∷ []))
+    ∙ append_assoc ts ((c + k, pos 1) ∷ (c + h, x) ∷ []) ((c + h + 1, b) ∷ []) in
     record { each = λ j. three j ∙ ap (λ us. coefficients us j) grouped ∙ sym (one_mul (coefficients (ts ++ (c + k, pos 1) ∷ (c + h, x) ∷ (c + h + 1, b) ∷ []) j)) }
 
 pub first_goal_is : (c h : ℕ) (ts : List (ℕ × ℤ)) (row : List ℤ) → length row ≡ c + h + 3 → ids_below c ts ≡ true → IsRowOf (negsuc 0) ts (at row)
-  → IsRowOf (pos 1) (scaled (negsuc 0) ts ++ (c + h + 2, pos 1) ∷ []) (at (set row (c + h + 2) (pos 1)))
+    → IsRowOf (pos 1) (scaled (negsuc 0) ts ++ (c + h + 2, pos 1) ∷ []) (at (set row (c + h + 2) (pos 1)))
 first_goal_is c h ts row size below r =
     let none : coefficients (scaled (negsuc 0) ts) (c + h + 2) ≡ pos 0 =
-        coefficients-scaled (negsuc 0) ts (c + h + 2) ∙ ap (λ z. negsuc 0 *ℤ z) (past_ids c ts (c + h + 2) below (omega arith)) ∙ mul_zero (negsuc 0) in
+    coefficients-scaled (negsuc 0) ts (c + h + 2) ∙ ap (λ z. negsuc 0 *ℤ z) (past_ids c ts (c + h + 2) below (omega arith)) ∙ mul_zero (negsuc 0) in
     let one : (j : ℕ) → at (set row (c + h + 2) (pos 1)) j ≡ coefficients (scaled (negsuc 0) ts ++ (c + h + 2, pos 1) ∷ []) j =
-        row_with (scaled (negsuc 0) ts) row (c + h + 2) (pos 1) (omega arith) (λ j. r.each j ∙ sym (coefficients-scaled (negsuc 0) ts j)) none in
+    row_with (scaled (negsuc 0) ts) row (c + h + 2) (pos 1) (omega arith) (λ j. r.each j ∙ sym (coefficients-scaled (negsuc 0) ts j)) none in
     record { each = λ j. one j ∙ sym (one_mul (coefficients (scaled (negsuc 0) ts ++ (c + h + 2, pos 1) ∷ []) j)) }

@@ -20,7 +20,7 @@ reduced_fits num den f n d p r =
     let size : 0 < unsigned_abs den = size_positive den some in
     let low : unsigned_abs f.den ≤ unsigned_abs den = le_of_dvd size (lowest_divides f.num f.den num den r.lowest.coprime r.same) in
     let product : unsigned_abs f.num * unsigned_abs den ≡ unsigned_abs num * unsigned_abs f.den =
-        sym (unsigned_abs-mul f.num den) ∙ ap unsigned_abs r.same ∙ unsigned_abs-mul num f.den in
+    sym (unsigned_abs-mul f.num den) ∙ ap unsigned_abs r.same ∙ unsigned_abs-mul num f.den in
     let more : unsigned_abs num * unsigned_abs f.den ≤ unsigned_abs num * unsigned_abs den = mul-le-mul_left (unsigned_abs num) low in
     let high : unsigned_abs f.num * unsigned_abs den ≤ unsigned_abs num * unsigned_abs den = omega arith in
     let least : unsigned_abs f.num ≤ unsigned_abs num = le_of_mul-le-mul_right high size in

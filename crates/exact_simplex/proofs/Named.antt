@@ -34,9 +34,9 @@ pub record IsNamed (t : Table) (enter leave : ℕ) : Type 0 where
 pub row_of_basic : (t : Table) → IsSound t → (row : ℕ) → row < t.height → row_of t (basic t row) ≡ row
 row_of_basic t s row l =
     let found : first_below t.height (λ i. basic t i == basic t row) ≡ Some row = first_is t.height (λ i. basic t i == basic t row) row (record {
-        within = l;
-        passed = eq-eqb (basic t row) (basic t row) refl;
-        before = λ k b. ne_eqb (basic t k) (basic t row) (basis_differs _ _ (basic t) (entry t) s.canonical k row (omega arith) (omega arith) (omega arith));
+      within = l;
+      passed = eq-eqb (basic t row) (basic t row) refl;
+      before = λ k b. ne_eqb (basic t k) (basic t row) (basis_differs _ _ (basic t) (entry t) s.canonical k row (omega arith) (omega arith) (omega arith));
     }) in
     ap (λ o. unwrap_or o t.height) found
 
@@ -59,20 +59,20 @@ none_negative t e i l = le_from (right_side t i) (pos 0) (best_none t.height (λ
 -- the rows by their right sides
 starting_order : (t : Table) → IsOrder (λ i. int_lt (right_side t i) (pos 0)) (λ i k. int_lt (right_side t i) (right_side t k))
 starting_order t = record {
-    itself = λ a p. lt_is_not (right_side t a) (right_side t a) (omega (arith, ints));
-    through = λ a b c p q r x y.
-        let ab = lt_from (right_side t a) (right_side t b) x in
-        let bc = lt_from (right_side t b) (right_side t c) y in
-        lt_is (right_side t a) (right_side t c) (omega (arith, ints));
+  itself = λ a p. lt_is_not (right_side t a) (right_side t a) (omega (arith, ints));
+  through = λ a b c p q r x y.
+      let ab = lt_from (right_side t a) (right_side t b) x in
+      let bc = lt_from (right_side t b) (right_side t c) y in
+      lt_is (right_side t a) (right_side t c) (omega (arith, ints));
 }
 
 -- the rows by their ratios
 leaving_order : (t : Table) (enter : ℕ) → IsOrder (λ i. int_lt (pos 0) (entry t i enter)) (goes_before t enter)
 leaving_order t enter = record {
-    itself = λ a p. ratio_itself (right_side t a) (entry t a enter) (basic t a);
-    through = λ a b c p q r x y.
-        ratio_through (right_side t a) (entry t a enter) (right_side t b) (entry t b enter) (right_side t c) (entry t c enter) (basic t a) (basic t b) (basic t c)
-            (lt_from (pos 0) (entry t a enter) p) (lt_from (pos 0) (entry t b enter) q) (lt_from (pos 0) (entry t c enter) r) x y;
+  itself = λ a p. ratio_itself (right_side t a) (entry t a enter) (basic t a);
+  through = λ a b c p q r x y.
+      ratio_through (right_side t a) (entry t a enter) (right_side t b) (entry t b enter) (right_side t c) (entry t c enter) (basic t a) (basic t b) (basic t c)
+      (lt_from (pos 0) (entry t a enter) p) (lt_from (pos 0) (entry t b enter) q) (lt_from (pos 0) (entry t c enter) r) x y;
 }
 
 -- a number that is at most 0, or not, is -1 or 0
@@ -97,32 +97,33 @@ module _ (t : Table) (s : IsSound t) where
       let turned : entry t row (artificial t) *ℤ right_side t row ≡ neg_ℤ (right_side t row) = ap (λ z. z *ℤ right_side t row) minus ∙ minus_times (right_side t row) in
       let square : entry t row (artificial t) *ℤ entry t row (artificial t) ≡ pos 1 = ap (λ z. z *ℤ z) minus in
       record {
-          row = row;
-          within = l;
-          row_is = row_of_basic t s row l;
-          leaves = refl;
-          enter_below = omega arith;
-          other = λ x. absurd (
-              let own : pos 0 <ℤ entry t row (basic t row) = s.canonical.positive row (omega arith) in
-              let same : entry t row (basic t row) ≡ negsuc 0 = ap (entry t row) x ∙ minus in
-              omega (arith, ints));
-          nonzero = λ z. cc;
-          feasible = record {
-              own = omega (arith, ints);
-              others = λ i p d.
-                  let f : entry t i (artificial t) ≡ cond (int_lt (right_side t i) (pos 0)) (negsuc 0) (pos 0) = fresh.each i p in
-                  let left : entry t row (artificial t) *ℤ right_side t row *ℤ entry t i (artificial t) ≡ neg_ℤ (right_side t row) *ℤ cond (int_lt (right_side t i) (pos 0)) (negsuc 0) (pos 0) =
-                      ap (λ z. z *ℤ entry t i (artificial t)) turned ∙ ap (λ z. neg_ℤ (right_side t row) *ℤ z) f in
-                  let whole : right_side t i *ℤ (entry t row (artificial t) *ℤ entry t row (artificial t)) ≡ right_side t i = ap (λ z. right_side t i *ℤ z) square ∙ times_one (right_side t i) in
-                  let order = fresh_le (int_lt (right_side t i) (pos 0)) (right_side t row) (right_side t i)
-                      (λ q. le_from (right_side t i) (right_side t row) (b.best i p q))
-                      (λ q. le_from (right_side t i) (pos 0) q) in
-                  omega (arith, ints);
-          };
+        row = row;
+        within = l;
+        row_is = row_of_basic t s row l;
+        leaves = refl;
+        enter_below = omega arith;
+        other = λ x. absurd (
+            let own : pos 0 <ℤ entry t row (basic t row) = s.canonical.positive row (omega arith) in
+            let same : entry t row (basic t row) ≡ negsuc 0 = ap (entry t row) x ∙ minus in
+            omega (arith, ints));
+        nonzero = λ z. cc;
+        feasible = record {
+          own = omega (arith, ints);
+          others = λ i p d.
+              let f : entry t i (artificial t) ≡ cond (int_lt (right_side t i) (pos 0)) (negsuc 0) (pos 0) = fresh.each i p in
+              let left : entry t row (artificial t) *ℤ right_side t row *ℤ entry t i (artificial t) ≡ neg_ℤ (right_side t row) *ℤ cond (int_lt (right_side t i) (pos 0)) (negsuc 0) (pos 0) =
+              ap (λ z. z *ℤ entry t i (artificial t)) turned ∙ ap (λ z. neg_ℤ (right_side t row) *ℤ z) f in
+              let whole : right_side t i *ℤ (entry t row (artificial t) *ℤ entry t row (artificial t)) ≡ right_side t i = ap (λ z. right_side t i *ℤ z) square ∙ times_one (right_side t i) in
+              let order = fresh_le (int_lt (right_side t i) (pos 0)) (right_side t row) (right_side t i)
+              (λ q. le_from (right_side t i) (right_side t row) (b.best i p q))
+              (λ q. le_from (right_side t i) (pos 0) q) in
+              omega (arith, ints);
+        };
       }
     where
       minus_times : (z : ℤ) → negsuc 0 *ℤ z ≡ neg_ℤ z
       minus_times z = omega (arith, ints)
+
       times_one : (z : ℤ) → z *ℤ pos 1 ≡ z
       times_one z = omega (arith, ints)
 
@@ -136,21 +137,21 @@ module _ (t : Table) (s : IsSound t) where
       let l = f.within in
       let gone : entry t (driving_row t) enter *ℤ right_side t (driving_row t) ≡ pos 0 = ap (λ z. entry t (driving_row t) enter *ℤ z) zero_right ∙ mul_zero (entry t (driving_row t) enter) in
       record {
-          row = driving_row t;
-          within = found.0;
-          row_is = refl;
-          leaves = found.1;
-          enter_below = omega arith;
-          other = λ x y. absurd (omega arith);
-          nonzero = ne_from (entry t (driving_row t) enter) (pos 0) (not-true (int_eq (entry t (driving_row t) enter) (pos 0)) f.passed);
-          feasible = record {
-              own = omega (arith, ints);
-              others = λ i p d.
-                  let left : entry t (driving_row t) enter *ℤ right_side t (driving_row t) *ℤ entry t i enter ≡ pos 0 = ap (λ z. z *ℤ entry t i enter) gone ∙ zero_mul (entry t i enter) in
-                  let more : pos 0 ≤ℤ (right_side t i *ℤ (entry t (driving_row t) enter *ℤ entry t (driving_row t) enter)) =
-                      mul_nonneg (right_side t i) (entry t (driving_row t) enter *ℤ entry t (driving_row t) enter) (none_negative t none i p) (square_nonneg (entry t (driving_row t) enter)) in
-                  omega (arith, ints);
-          };
+        row = driving_row t;
+        within = found.0;
+        row_is = refl;
+        leaves = found.1;
+        enter_below = omega arith;
+        other = λ x y. absurd (omega arith);
+        nonzero = ne_from (entry t (driving_row t) enter) (pos 0) (not-true (int_eq (entry t (driving_row t) enter) (pos 0)) f.passed);
+        feasible = record {
+          own = omega (arith, ints);
+          others = λ i p d.
+              let left : entry t (driving_row t) enter *ℤ right_side t (driving_row t) *ℤ entry t i enter ≡ pos 0 = ap (λ z. z *ℤ entry t i enter) gone ∙ zero_mul (entry t i enter) in
+              let more : pos 0 ≤ℤ (right_side t i *ℤ (entry t (driving_row t) enter *ℤ entry t (driving_row t) enter)) =
+              mul_nonneg (right_side t i) (entry t (driving_row t) enter *ℤ entry t (driving_row t) enter) (none_negative t none i p) (square_nonneg (entry t (driving_row t) enter)) in
+              omega (arith, ints);
+        };
       }
     where
       square_nonneg : (z : ℤ) → pos 0 ≤ℤ (z *ℤ z)
@@ -168,25 +169,25 @@ module _ (t : Table) (s : IsSound t) where
       let more_le : pos 0 ≤ℤ entry t row enter = omega (arith, ints) in
       let own : pos 0 ≤ℤ (entry t row enter *ℤ right_side t row) = mul_nonneg (entry t row enter) (right_side t row) more_le (none_negative t none row l) in
       record {
-          row = row;
-          within = l;
-          row_is = row_of_basic t s row l;
-          leaves = refl;
-          enter_below = omega arith;
-          other = λ x y. absurd (omega arith);
-          nonzero = λ z. absurd (omega (arith, ints));
-          feasible = record {
-              own = own;
-              others = λ i p d. choose i p (int_lt (pos 0) (entry t i enter)) refl more_le own b;
-          };
+        row = row;
+        within = l;
+        row_is = row_of_basic t s row l;
+        leaves = refl;
+        enter_below = omega arith;
+        other = λ x y. absurd (omega arith);
+        nonzero = λ z. absurd (omega (arith, ints));
+        feasible = record {
+          own = own;
+          others = λ i p d. choose i p (int_lt (pos 0) (entry t i enter)) refl more_le own b;
+        };
       }
     where
       choose : (i : ℕ) → i < t.height → (c : Bool) → int_lt (pos 0) (entry t i enter) ≡ c → pos 0 ≤ℤ entry t row enter → pos 0 ≤ℤ (entry t row enter *ℤ right_side t row)
-        → IsBest t.height (λ i. int_lt (pos 0) (entry t i enter)) (goes_before t enter) row
-        → (entry t row enter *ℤ right_side t row *ℤ entry t i enter) ≤ℤ (right_side t i *ℤ (entry t row enter *ℤ entry t row enter))
+          → IsBest t.height (λ i. int_lt (pos 0) (entry t i enter)) (goes_before t enter) row
+          → (entry t row enter *ℤ right_side t row *ℤ entry t i enter) ≤ℤ (right_side t i *ℤ (entry t row enter *ℤ entry t row enter))
       choose i p true c more own b =
           let order : (right_side t row *ℤ entry t i enter) ≤ℤ (right_side t i *ℤ entry t row enter) =
-              ratio_false (right_side t i *ℤ entry t row enter) (right_side t row *ℤ entry t i enter) (basic t i) (basic t row) (b.best i p c) in
+          ratio_false (right_side t i *ℤ entry t row enter) (right_side t row *ℤ entry t i enter) (basic t i) (basic t row) (b.best i p c) in
           let m = simp products at (le_mul (entry t row enter) (right_side t row *ℤ entry t i enter) (right_side t i *ℤ entry t row enter) more order) in
           simp products (omega (arith, ints))
       choose i p false c more own b =
@@ -204,21 +205,27 @@ module _ (t : Table) (s : IsSound t) where
           let x : a ≡ enter = cc in
           let y : b ≡ leave = cc in
           subst (λ z. IsNamed t enter z) y (subst (λ z. IsNamed t z b) x n)
+
       leaving : (none : starting_row t ≡ None) (column : ℕ) → entering_column t ≡ Some column → (o : Option ℕ) → leaving_row t column ≡ o → leaving_move t column o ≡ Exchange enter leave → IsNamed t enter leave
       leaving none column ec None eo q = absurd (cc)
       leaving none column ec (Some row) eo q = to column (basic t row) (entered column row none ec eo) q
+
       never : (b : Bool) → cond b Optimal Infeasible ≡ Exchange enter leave → ⊥
       never true q = cc
       never false q = cc
+
       entering : (none : starting_row t ≡ None) (o : Option ℕ) → entering_column t ≡ o → entering_move t o ≡ Exchange enter leave → IsNamed t enter leave
       entering none None eo q = absurd (never (driving_row t == t.height) q)
       entering none (Some column) eo q = leaving none column eo (leaving_row t column) refl q
+
       exiting : (none : starting_row t ≡ None) → is_spent t ≡ true → (o : Option ℕ) → exit_column t ≡ o → exit_move t o ≡ Exchange enter leave → IsNamed t enter leave
       exiting none spent None eo q = entering none (entering_column t) refl q
       exiting none spent (Some column) eo q = to column (artificial t) (exited column none spent eo) q
+
       driven : (none : starting_row t ≡ None) (b : Bool) → is_spent t ≡ b → driven_move t b ≡ Exchange enter leave → IsNamed t enter leave
       driven none true eb q = exiting none eb (exit_column t) refl q
       driven none false eb q = entering none (entering_column t) refl q
+
       start : (o : Option ℕ) → starting_row t ≡ o → first_move t o ≡ Exchange enter leave → IsNamed t enter leave
       start None eo q = driven eo (is_spent t) refl q
       start (Some row) eo q = to (artificial t) (basic t row) (started row eo) q

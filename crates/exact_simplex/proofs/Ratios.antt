@@ -66,8 +66,8 @@ ratio_eq_eq ra fa rb fb rc fc pa pb pc h k =
 
 -- the order of ratios with ties goes through a middle one
 pub ratio_through : (ra fa rb fb rc fc : ℤ) (a b c : ℕ) → pos 0 <ℤ fa → pos 0 <ℤ fb → pos 0 <ℤ fc
-  → by_ratio (int_cmp (ra *ℤ fb) (rb *ℤ fa)) (nat_lt a b) ≡ true → by_ratio (int_cmp (rb *ℤ fc) (rc *ℤ fb)) (nat_lt b c) ≡ true
-  → by_ratio (int_cmp (ra *ℤ fc) (rc *ℤ fa)) (nat_lt a c) ≡ true
+    → by_ratio (int_cmp (ra *ℤ fb) (rb *ℤ fa)) (nat_lt a b) ≡ true → by_ratio (int_cmp (rb *ℤ fc) (rc *ℤ fb)) (nat_lt b c) ≡ true
+    → by_ratio (int_cmp (ra *ℤ fc) (rc *ℤ fa)) (nat_lt a c) ≡ true
 ratio_through ra fa rb fb rc fc a b c pa pb pc h k =
     go (ratio_true (ra *ℤ fb) (rb *ℤ fa) a b h) (ratio_true (rb *ℤ fc) (rc *ℤ fb) b c k)
   where

@@ -12,3 +12,6 @@ pub mod tableau;
 pub use log::{Event, Log};
 pub use moves::{Move, Outcome};
 pub use tableau::Tableau;
+
+#[cfg(test)]
+mod tests;

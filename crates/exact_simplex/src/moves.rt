@@ -2,7 +2,6 @@
 
 use lp_rows::WideAt;
 
-
 /// The move that Bland's rule names.
 #[derive(Clone, Copy, Debug, PartialEq, Eq)]
 pub enum Move {

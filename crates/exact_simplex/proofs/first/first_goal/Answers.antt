@@ -17,7 +17,8 @@ pub returns : goal.returns
 returns c =
     let size : length c.in_ok-entries.entries ≡ c.args.columns + c.args.height + 3 = ap length c.in_ok-entries.ensures ∙ length-replicate (c.args.columns + c.args.height + 3) (pos 0) in
     let long : length c.write_terms.new.row ≡ c.args.columns + c.args.height + 3 = c.write_terms.ensures.len ∙ size in
-    let last : c.set.new.self ≡ set c.write_terms.new.row (c.args.columns + c.args.height + 2) (pos 1) = c.set.ensures in
-    (ap length last ∙ length-set c.write_terms.new.row (c.args.columns + c.args.height + 2) (pos 1) ∙ long,
-     subst (λ r. IsRowOf (pos 1) (goal_terms c.args.columns c.args.height c.args.goal.now) (at r)) (sym last)
-        (first_goal_is c.args.columns c.args.height c.args.goal.now c.write_terms.new.row long (terms_below c.args.columns c.args.goal.now c.requires.goal) c.write_terms.ensures.row))
+    let last : c.set.new.self ≡ set c.write_terms.new.row (c.args.columns + c.args.height + 2) (pos 1) = c.set.ensures in (
+      ap length last ∙ length-set c.write_terms.new.row (c.args.columns + c.args.height + 2) (pos 1) ∙ long,
+      subst (λ r. IsRowOf (pos 1) (goal_terms c.args.columns c.args.height c.args.goal.now) (at r)) (sym last)
+          (first_goal_is c.args.columns c.args.height c.args.goal.now c.write_terms.new.row long (terms_below c.args.columns c.args.goal.now c.requires.goal) c.write_terms.ensures.row),
+    )

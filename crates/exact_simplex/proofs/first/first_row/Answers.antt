@@ -18,7 +18,7 @@ write_terms-requires-clause-below c =
     let below : ids_below c.args.columns c.args.row.now.terms ≡ true = terms_below c.args.columns c.args.row.now.terms parts.0 in
     let same : c.as_slice.result.now ≡ c.args.row.now.terms = c.as_slice.ensures in
     subst (λ ts. ids_below (length c.in_ok-entries.entries) ts ≡ true) (sym same)
-        (below_more_ids c.args.columns (length c.in_ok-entries.entries) c.args.row.now.terms (omega arith) below)
+    (below_more_ids c.args.columns (length c.in_ok-entries.entries) c.args.row.now.terms (omega arith) below)
 
 pub returns : goal.returns
 returns c =
@@ -35,11 +35,12 @@ returns c =
     let three : c.set-3.new.self ≡ set c.set-2.new.self (c.args.columns + c.args.height + 1) c.args.row.now.bound = simp to_z-of_z at c.set-3.ensures in
     let x : ℤ = cond (int_lt c.args.row.now.bound (pos 0)) (negsuc 0) (pos 0) in
     let last : c.set-3.new.self ≡ set (set (set c.write_terms.new.row (c.args.columns + c.args.k) (pos 1)) (c.args.columns + c.args.height) (cond (int_lt c.args.row.now.bound (pos 0)) (negsuc 0) (pos 0))) (c.args.columns + c.args.height + 1) c.args.row.now.bound =
-        three ∙ ap (λ r. set r (c.args.columns + c.args.height + 1) c.args.row.now.bound) (two ∙ ap (λ r. set r (c.args.columns + c.args.height) c.artificial_entry.result) one
-            ∙ ap (λ z. set (set c.write_terms.new.row (c.args.columns + c.args.k) (pos 1)) (c.args.columns + c.args.height) z) value) in
+    three ∙ ap (λ r. set r (c.args.columns + c.args.height + 1) c.args.row.now.bound) (two ∙ ap (λ r. set r (c.args.columns + c.args.height) c.artificial_entry.result) one
+    ∙ ap (λ z. set (set c.write_terms.new.row (c.args.columns + c.args.k) (pos 1)) (c.args.columns + c.args.height) z) value) in
     let row : IsRowOf (pos 1) c.args.row.now.terms (at c.write_terms.new.row) = subst (λ ts. IsRowOf (pos 1) ts (at c.write_terms.new.row)) same c.write_terms.ensures.row in
     let size1 = length-set c.write_terms.new.row (c.args.columns + c.args.k) (pos 1) in
-    let size2 = length-set (set c.write_terms.new.row (c.args.columns + c.args.k) (pos 1)) (c.args.columns + c.args.height) x in
-    (ap length last ∙ length-set (set (set c.write_terms.new.row (c.args.columns + c.args.k) (pos 1)) (c.args.columns + c.args.height) x) (c.args.columns + c.args.height + 1) c.args.row.now.bound ∙ size2 ∙ size1 ∙ long,
-     subst (λ r. IsRowOf (pos 1) (row_terms c.args.columns c.args.height c.args.k c.args.row.now) (at r)) (sym last)
-        (first_row_is c.args.columns c.args.height c.args.k c.args.row.now.terms x c.args.row.now.bound c.write_terms.new.row long c.requires.within below row))
+    let size2 = length-set (set c.write_terms.new.row (c.args.columns + c.args.k) (pos 1)) (c.args.columns + c.args.height) x in (
+      ap length last ∙ length-set (set (set c.write_terms.new.row (c.args.columns + c.args.k) (pos 1)) (c.args.columns + c.args.height) x) (c.args.columns + c.args.height + 1) c.args.row.now.bound ∙ size2 ∙ size1 ∙ long,
+      subst (λ r. IsRowOf (pos 1) (row_terms c.args.columns c.args.height c.args.k c.args.row.now) (at r)) (sym last)
+          (first_row_is c.args.columns c.args.height c.args.k c.args.row.now.terms x c.args.row.now.bound c.write_terms.new.row long c.requires.within below row),
+    )

@@ -4,6 +4,6 @@ use Rattle.exact_simplex.proofs.first.first_rows.Given as goal
 
 abbrev pub invariant-loop-k : goal.invariant-loop-k
 invariant-loop-k l = record {
-    count : length l.made.items ≡ l.k;
-    each : AreFirstRows l.columns (length l.rows) l.rows l.k l.made.items;
+  count : length l.made.items ≡ l.k;
+  each : AreFirstRows l.columns (length l.rows) l.rows l.k l.made.items;
 }

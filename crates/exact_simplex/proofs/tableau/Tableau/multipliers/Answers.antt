@@ -17,7 +17,7 @@ if_ok_more P Q (Err e) f h = tt
 
 -- what the search finds and the row there, at the tableau
 entries_at : (t : Table) (s : IsSound t) (basis : List ℕ) (row : ℕ) (item : List ℤ) → basis ≡ t.basis → row ≡ unwrap_or (first_below t.height (λ i. slice_index_or basis i 0 == artificial t)) t.height → row < t.height + 1 → item ≡ slice_index_or t.rows row item
-  → entries_of t.height (λ k. neg_ℤ (at item (t.columns + k))) ≡ multipliers_of t
+    → entries_of t.height (λ k. neg_ℤ (at item (t.columns + k))) ≡ multipliers_of t
 entries_at t s basis row item e f l i =
     let found : row ≡ driving_row t = f ∙ ap (λ b. unwrap_or (first_below t.height (λ k. slice_index_or b k 0 == artificial t)) t.height) e in
     let n = s.row_count in
@@ -28,29 +28,29 @@ pub returns-clause-value : goal.returns-clause-value
 returns-clause-value c =
     let t : Table = record { columns = c.self.inside.columns; height = c.self.inside.height; rows = c.self.inside.rows.items; basis = c.self.inside.basis.items; dropped = c.self.inside.dropped } in
     let is : entries_of c.self.inside.height (λ k. neg_ℤ (at c.index.result.now (c.self.inside.columns + k))) ≡ multipliers_of c.args.self.now =
-        entries_at t c.self.invariant.sound c.deref.result.now c.find_row-row.result c.index.result.now c.deref.ensures.value c.find_row-row.ensures.value (let w = c.find_row-row.ensures.within in omega arith) c.index.ensures ∙ ap multipliers_of c.self.view_is in
+    entries_at t c.self.invariant.sound c.deref.result.now c.find_row-row.result c.index.result.now c.deref.ensures.value c.find_row-row.ensures.value (let w = c.find_row-row.ensures.within in omega arith) c.index.ensures ∙ ap multipliers_of c.self.view_is in
     if_ok_more (λ m. m ≡ entries_of c.self.inside.height (λ k. neg_ℤ (at c.index.result.now (c.self.inside.columns + k)))) (λ m. m ≡ multipliers_of c.args.self.now) c.slack_entries.result (λ m e. e ∙ is) c.slack_entries.ensures
 
 pub returns-clause-optimal : goal.returns-clause-optimal
 returns-clause-optimal c =
     let t : Table = record { columns = c.self.inside.columns; height = c.self.inside.height; rows = c.self.inside.rows.items; basis = c.self.inside.basis.items; dropped = c.self.inside.dropped } in
     let is : entries_of c.self.inside.height (λ k. neg_ℤ (at c.index.result.now (c.self.inside.columns + k))) ≡ multipliers_of c.args.self.now =
-        entries_at t c.self.invariant.sound c.deref.result.now c.find_row-row.result c.index.result.now c.deref.ensures.value c.find_row-row.ensures.value (let w = c.find_row-row.ensures.within in omega arith) c.index.ensures ∙ ap multipliers_of c.self.view_is in
+    entries_at t c.self.invariant.sound c.deref.result.now c.find_row-row.result c.index.result.now c.deref.ensures.value c.find_row-row.ensures.value (let w = c.find_row-row.ensures.within in omega arith) c.index.ensures ∙ ap multipliers_of c.self.view_is in
     let sound : IsSound c.args.self.now = subst (λ u. IsSound u) c.self.view_is c.self.invariant.sound in
     if_ok_more (λ m. m ≡ entries_of c.self.inside.height (λ k. neg_ℤ (at c.index.result.now (c.self.inside.columns + k))))
-        (λ m. (form : Standard) → IsTableauOf form c.args.self.now → bland_move c.args.self.now ≡ Optimal → BoundsForm form (right_side c.args.self.now c.args.self.now.height) (entry c.args.self.now c.args.self.now.height (scale c.args.self.now)) m)
-        c.slack_entries.result
-        (λ m e form tab opt. subst (λ x. BoundsForm form (right_side c.args.self.now c.args.self.now.height) (entry c.args.self.now c.args.self.now.height (scale c.args.self.now)) x) (sym (e ∙ is)) (optimal_bounds form c.args.self.now sound tab opt))
-        c.slack_entries.ensures
+    (λ m. (form : Standard) → IsTableauOf form c.args.self.now → bland_move c.args.self.now ≡ Optimal → BoundsForm form (right_side c.args.self.now c.args.self.now.height) (entry c.args.self.now c.args.self.now.height (scale c.args.self.now)) m)
+    c.slack_entries.result
+    (λ m e form tab opt. subst (λ x. BoundsForm form (right_side c.args.self.now c.args.self.now.height) (entry c.args.self.now c.args.self.now.height (scale c.args.self.now)) x) (sym (e ∙ is)) (optimal_bounds form c.args.self.now sound tab opt))
+    c.slack_entries.ensures
 
 pub returns-clause-infeasible : goal.returns-clause-infeasible
 returns-clause-infeasible c =
     let t : Table = record { columns = c.self.inside.columns; height = c.self.inside.height; rows = c.self.inside.rows.items; basis = c.self.inside.basis.items; dropped = c.self.inside.dropped } in
     let is : entries_of c.self.inside.height (λ k. neg_ℤ (at c.index.result.now (c.self.inside.columns + k))) ≡ multipliers_of c.args.self.now =
-        entries_at t c.self.invariant.sound c.deref.result.now c.find_row-row.result c.index.result.now c.deref.ensures.value c.find_row-row.ensures.value (let w = c.find_row-row.ensures.within in omega arith) c.index.ensures ∙ ap multipliers_of c.self.view_is in
+    entries_at t c.self.invariant.sound c.deref.result.now c.find_row-row.result c.index.result.now c.deref.ensures.value c.find_row-row.ensures.value (let w = c.find_row-row.ensures.within in omega arith) c.index.ensures ∙ ap multipliers_of c.self.view_is in
     let sound : IsSound c.args.self.now = subst (λ u. IsSound u) c.self.view_is c.self.invariant.sound in
     if_ok_more (λ m. m ≡ entries_of c.self.inside.height (λ k. neg_ℤ (at c.index.result.now (c.self.inside.columns + k))))
-        (λ m. (form : Standard) → IsTableauOf form c.args.self.now → bland_move c.args.self.now ≡ Infeasible → RefutesForm form m)
-        c.slack_entries.result
-        (λ m e form tab inf. subst (λ x. RefutesForm form x) (sym (e ∙ is)) (infeasible_refutes form c.args.self.now sound tab inf))
-        c.slack_entries.ensures
+    (λ m. (form : Standard) → IsTableauOf form c.args.self.now → bland_move c.args.self.now ≡ Infeasible → RefutesForm form m)
+    c.slack_entries.result
+    (λ m e form tab inf. subst (λ x. RefutesForm form x) (sym (e ∙ is)) (infeasible_refutes form c.args.self.now sound tab inf))
+    c.slack_entries.ensures

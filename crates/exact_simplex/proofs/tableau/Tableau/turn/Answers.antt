@@ -22,10 +22,10 @@ returns-in-Err-clause-ended c =
 
 pub returns-in-Ok-clause-moved : goal.returns-in-Ok-clause-moved
 returns-in-Ok-clause-moved c = record {
-    pair = record { enter = c.in-Exchange.enter; leave = c.in-Exchange.leave };
-    moved = record { named = sym c.in-Exchange.ensures; narrow = c.in-Ok.ensures.narrow; exchanged = c.in-Ok.ensures.ok };
-    tableau = c.in-Ok.ensures.tableau;
-    step_taken = let q = c.if-steps-eq0.false in omega arith;
-    room_taken = c.push.ensures.spare;
-    event = c.push.ensures.events;
+  pair = record { enter = c.in-Exchange.enter; leave = c.in-Exchange.leave };
+  moved = record { named = sym c.in-Exchange.ensures; narrow = c.in-Ok.ensures.narrow; exchanged = c.in-Ok.ensures.ok };
+  tableau = c.in-Ok.ensures.tableau;
+  step_taken = let q = c.if-steps-eq0.false in omega arith;
+  room_taken = c.push.ensures.spare;
+  event = c.push.ensures.events;
 }
