@@ -25,7 +25,7 @@ use Rattle.exact_simplex.specs.Equations.{row_terms, goal_terms, row_at, equatio
 use Rattle.exact_simplex.specs.Bland.{bland_move, first_move, driven_move, exit_move, entering_move, leaving_move, basic_move, starting_row, driving_row, row_of, is_spent, exit_column, entering_column, leaving_row}
 use Rattle.exact_simplex.specs.ReadOut.{entries_of, multipliers_of, combined, combined_bound, AreMultipliers, RefutesForm, BoundsForm}
 use Rattle.exact_simplex.proofs.Choices.{first_none}
-use Rattle.exact_simplex.proofs.Tests.{le_from, eq_from, ne_from}
+use Rattle.exact_simplex.proofs.Comparisons.{le_from, eq_from, ne_from}
 use Rattle.exact_simplex.proofs.Named.{none_negative, row_of_found}
 use Rattle.exact_simplex.proofs.FirstRows.{past_ids}
 use Rattle.exact_simplex.proofs.FirstTable.{standard_parts, all_at, on, off}

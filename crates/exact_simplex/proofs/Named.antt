@@ -12,7 +12,7 @@ use Rattle.exact_simplex.specs.Choice.{first_below, best_below}
 use Rattle.exact_simplex.specs.Table.{Table, IsSound, IsFresh, entry, right_side, basic, artificial, right}
 use Rattle.exact_simplex.specs.Bland.{bland_move, first_move, driven_move, exit_move, entering_move, leaving_move, starting_row, driving_row, row_of, is_spent, exit_column, entering_column, leaving_row, goes_before}
 use Rattle.exact_simplex.proofs.Choices.{IsFirst, IsBest, IsOrder, first_some, first_is, best_some, best_none}
-use Rattle.exact_simplex.proofs.Tests.{lt_from, le_from, lt_is, lt_is_not, eq_from, ne_from}
+use Rattle.exact_simplex.proofs.Comparisons.{lt_from, le_from, lt_is, lt_is_not, eq_from, ne_from}
 use Rattle.exact_simplex.proofs.Ratios.{ratio_false, ratio_through, ratio_itself}
 
 -- no right side becomes negative where this row is made basic in this column
