@@ -1,28 +1,26 @@
 -- At an optimal tableau the multipliers bound the goal by its level, and at an infeasible one they refute the form.
-use Rattle.std.proofs.Common.{◌≡◌, ◌≢◌, ◌<◌, ◌≤◌, ◌+◌, ◌==◌, ◌++◌, ◌&&◌, ◌⊎◌, ℕ, zero, suc, ℤ, pos, negsuc, ◌+ℤ◌, ◌*ℤ◌, ◌<ℤ◌, ◌≤ℤ◌, neg_ℤ, Bool, true, false, cond, not, int_lt, Option, Some, None, List, [], ◌∷◌, length, All, slice_index_or, arith, refl, ap, sym, ◌∙◌, subst, inl, inr}
+use Rattle.std.proofs.Common.{◌≡◌, ◌≢◌, ◌<◌, ◌≤◌, ◌+◌, ◌==◌, ◌++◌, ◌&&◌, ◌⊎◌, ℕ, zero, suc, ℤ, pos, negsuc, ◌+ℤ◌, ◌*ℤ◌, ◌<ℤ◌, ◌≤ℤ◌, neg_ℤ, Bool, true, false, cond, not, int_lt, Option, Some, None, [], ◌∷◌, length, All, arith, refl, ap, sym, ◌∙◌, subst, inl, inr}
 use Rattle.std.proofs.lemmas.Int.{ints, by_lt_z}
-use Rattle.std.proofs.lemmas.Bool.{cases_eq, eq-eqb, ne_eqb, eqb-true, eqb-false, and_parts, not-true}
+use Rattle.std.proofs.lemmas.Bool.{cases_eq, eq-eqb, ne_eqb, eqb-true, eqb-false, and_parts}
 use Rattle.std.proofs.lemmas.List.Elements.{All-append, All-cons}
 use Rattle.std.specs.Ordering.{int_eq}
 use Rattle.int_linear.specs.Sums.{total, inner}
 use Rattle.int_linear.specs.Terms.{dot, coefficients, scaled}
-use Rattle.int_linear.proofs.Ring.{products, mul_zero, zero_mul, mul_one, one_mul, neg_mul, mul_neg}
+use Rattle.int_linear.proofs.Ring.{mul_zero, zero_mul, one_mul, neg_mul, mul_neg}
 use Rattle.int_linear.proofs.Totals.{total_same, total_zero}
 use Rattle.int_linear.proofs.Inner.{inner_neg, inner_same_at}
 use Rattle.int_linear.proofs.Dots.{dot-append, coefficients-append, coefficients-scaled}
 use Rattle.simplex_rows.specs.Dropped.{all_without}
-use Rattle.simplex_rows.proofs.Dropped.{without_here, without_else}
+use Rattle.simplex_rows.proofs.Dropped.{without_else}
 use Rattle.lp_rows.specs.Holding.{ids_below}
-use Rattle.lp_frame.specs.declared.force.AtMost.{AtMost}
 use Rattle.lp_frame.specs.Force.{is_row, are_terms, is_narrow}
 use Rattle.lp_frame.specs.Standard.{Standard, is_standard}
 use Rattle.lp_frame.proofs.Terms.{terms_below}
 use Rattle.exact_simplex.specs.declared.moves.Move.{Move}
 use Rattle.exact_simplex.specs.declared.moves.Move.TheVariants.{Exchange, Optimal, Infeasible, Unbounded}
-use Rattle.exact_simplex.specs.Choice.{first_below}
 use Rattle.exact_simplex.specs.Table.{Table, IsSound, entry, right_side, basic, artificial, right, scale, width, unit, slack, in_force}
 use Rattle.exact_simplex.specs.Equations.{row_terms, goal_terms, row_at, equation_of, IsTableauOf}
-use Rattle.exact_simplex.specs.Bland.{bland_move, first_move, driven_move, exit_move, entering_move, leaving_move, basic_move, starting_row, driving_row, row_of, is_spent, exit_column, entering_column, leaving_row}
+use Rattle.exact_simplex.specs.Bland.{bland_move, first_move, driven_move, exit_move, entering_move, leaving_move, starting_row, driving_row, is_spent, exit_column, entering_column, leaving_row}
 use Rattle.exact_simplex.specs.ReadOut.{entries_of, multipliers_of, combined, combined_bound, AreMultipliers, RefutesForm, BoundsForm}
 use Rattle.exact_simplex.proofs.Choices.{first_none}
 use Rattle.exact_simplex.proofs.Comparisons.{le_from, eq_from, ne_from}
