@@ -10,3 +10,4 @@ pub mod FirstRows
 pub mod FirstTable
 pub mod Certificates
 pub mod Fractions
+pub mod Solutions

@@ -14,6 +14,7 @@ mod bland;
 mod choosing;
 mod exchange;
 mod first;
+pub mod laws;
 pub mod log;
 pub mod moves;
 pub mod tableau;
