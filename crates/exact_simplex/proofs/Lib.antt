@@ -11,3 +11,4 @@ pub mod FirstTable
 pub mod Certificates
 pub mod Fractions
 pub mod Solutions
+pub mod Commons

@@ -7,3 +7,4 @@ pub mod Log
 pub mod ReadOut
 pub mod Run
 pub mod Table
+pub mod Values
