@@ -12,7 +12,12 @@ use Rattle.simplex_rows.specs.Width.{IsFactors}
 use Rattle.simplex_rows.proofs.Factors.{factors_same}
 use Rattle.simplex_rows.proofs.Directions.{basis_differs}
 use Rattle.exact_simplex.specs.Table.{Table, IsSound, entry, right_side, basic, width}
-use Rattle.exact_simplex.specs.Values.{own, IsCommon, IsWideCommon, AreNumerators, IsWideNumerator, IsNextCommon, IsNextWide, DividesOver}
+use Rattle.exact_simplex.specs.Values.{own, IsCommon, IsWideCommon, AreNumerators, IsWideNumerator, IsNextCommon, IsNextWide, DividesOver, IsPointOf, IsPointRefusal}
+use Rattle.exact_simplex.specs.Bland.{table_of}
+use Rattle.lp_rows.specs.Points.{PointValue}
+use Rattle.lp_rows.specs.declared.columns.WideAt.TheVariants.{Entry, Over, Ray, Leaf, Sum, RaySum, Value}
+use Rattle.exact_simplex.specs.declared.moves.ReadOut.{ReadOut}
+use Rattle.exact_simplex.specs.declared.moves.ReadOut.TheVariants.{Memory, Wide}
 
 pub common_none : (t : Table) → IsCommon t 0 (pos 1)
 common_none t = record { positive = omega (arith, ints); multiple = λ i den num l x. absurd (omega arith); least = λ m h. one-dvd m }
@@ -59,3 +64,24 @@ numerators_over t i over nums b a = record {
       | inr x ↦ a.value k (omega arith) w ];
     others = λ j w h. a.others j w (λ k q. h k (omega arith));
 }
+
+-- whether the artificial has left does not matter to the values
+common_moves : (t : Table) (n : ℕ) (over : ℤ) → IsCommon (table_of t.columns t.height t.rows t.basis) n over → IsCommon t n over
+common_moves t n over c = record { positive = c.positive; multiple = c.multiple; least = c.least }
+
+numerators_move : (t : Table) (n : ℕ) (over : ℤ) (nums : List ℤ) → AreNumerators (table_of t.columns t.height t.rows t.basis) n over nums → AreNumerators t n over nums
+numerators_move t n over nums a = record { size = a.size; value = a.value; others = a.others }
+
+pub point_moves : (t : Table) (p : PointValue) → IsPointOf (table_of t.columns t.height t.rows t.basis) p → IsPointOf t p
+point_moves t p h = record { over = common_moves t t.height p.over h.over; nums = numerators_move t t.height p.over p.nums h.nums }
+
+pub refusal_moves : (t : Table) (r : ReadOut) → IsPointRefusal (table_of t.columns t.height t.rows t.basis) r → IsPointRefusal t r
+refusal_moves t Memory h = tt
+refusal_moves t (Wide (Over row)) (inl w) = inl (record { within = w.within; over = w.over; before = common_moves t row w.over w.before; den = w.den; num = w.num; value = w.value; multiple = w.multiple; wide = w.wide; common = w.common })
+refusal_moves t (Wide (Over row)) (inr w) = inr (w.0, common_moves t t.height w.0 w.1, record { within = w.2.within; structural = w.2.structural; nums = w.2.nums; before = numerators_move t row w.0 w.2.nums w.2.before; value = w.2.value; is = w.2.is; wide = w.2.wide })
+refusal_moves t (Wide (Entry row column)) h = absurd h
+refusal_moves t (Wide (Ray row)) h = absurd h
+refusal_moves t (Wide (Leaf row column)) h = absurd h
+refusal_moves t (Wide (Sum mark)) h = absurd h
+refusal_moves t (Wide (RaySum mark)) h = absurd h
+refusal_moves t (Wide Value) h = absurd h
