@@ -24,14 +24,15 @@ common_none t = record { positive = omega (arith, ints); multiple = λ i den num
 
 pub common_more : (t : Table) (i : ℕ) (over next : ℤ) → IsCommon t i over → IsNextCommon over (own t i) (right_side t i) next → IsCommon t (i + 1) next
 common_more t i over next c n = record {
-    positive = n.positive;
-    multiple = λ k den num l x. elim (cases_eq k i) as (λ _. unsigned_abs den ∣ unsigned_abs next) [
-        inl e ↦
-            let y : IsFactors (own t i) (right_side t i) den num = subst (λ j. IsFactors (own t j) (right_side t j) den num) e x in
-            let same : n.den ≡ den = (factors_same (own t i) (right_side t i) n.den n.num den num n.value y).0 in
-            subst (λ z. unsigned_abs z ∣ unsigned_abs next) same n.common.second
-      | inr e ↦ dvd_trans (unsigned_abs den) (c.multiple k den num (omega arith) x) n.common.first ];
-    least = λ m h. n.common.least m (c.least m (λ k den num l x. h k den num (omega arith) x)) (h i n.den n.num (omega arith) n.value);
+  positive = n.positive;
+  multiple = λ k den num l x. elim (cases_eq k i) as (λ _. unsigned_abs den ∣ unsigned_abs next) [
+    | inl e ↦
+        let y : IsFactors (own t i) (right_side t i) den num = subst (λ j. IsFactors (own t j) (right_side t j) den num) e x in
+        let same : n.den ≡ den = (factors_same (own t i) (right_side t i) n.den n.num den num n.value y).0 in
+        subst (λ z. unsigned_abs z ∣ unsigned_abs next) same n.common.second
+    | inr e ↦ dvd_trans (unsigned_abs den) (c.multiple k den num (omega arith) x) n.common.first
+  ];
+  least = λ m h. n.common.least m (c.least m (λ k den num l x. h k den num (omega arith) x)) (h i n.den n.num (omega arith) n.value);
 }
 
 pub common_wide : (t : Table) (i : ℕ) (over : ℤ) → i < t.height → IsCommon t i over → IsNextWide over (own t i) (right_side t i) → IsWideCommon t i
@@ -43,26 +44,28 @@ common_divides t i n over l c = record { each = λ den num x. c.multiple i den n
 -- a numerator is written
 pub numerators_more : (t : Table) (s : IsSound t) (i : ℕ) (over value : ℤ) (nums : List ℤ) → i < t.height → basic t i < t.columns → AreNumerators t i over nums → value *ℤ own t i ≡ right_side t i *ℤ over → AreNumerators t (i + 1) over (set nums (basic t i) value)
 numerators_more t s i over value nums l b a e = record {
-    size = length-set nums (basic t i) value ∙ a.size;
-    value = λ k q w. elim (cases_eq k i) as (λ _. at (set nums (basic t i) value) (basic t k) *ℤ own t k ≡ right_side t k *ℤ over) [
-        inl x ↦
-            let n = a.size in
-            let here : at (set nums (basic t i) value) (basic t i) ≡ value = get_or-set_same nums (basic t i) value (pos 0) (omega arith) in
-            subst (λ j. at (set nums (basic t i) value) (basic t j) *ℤ own t j ≡ right_side t j *ℤ over) (sym x) (ap (λ z. z *ℤ own t i) here ∙ e)
-      | inr x ↦
-            let differs : basic t k ≢ basic t i = basis_differs (width t) (t.height + 1) (basic t) (entry t) s.canonical k i (omega arith) (omega arith) x in
-            ap (λ z. z *ℤ own t k) (get_or-set_other nums (basic t i) (basic t k) value (pos 0) differs) ∙ a.value k (omega arith) w ];
-    others = λ j w h. get_or-set_other nums (basic t i) j value (pos 0) (h i (omega arith)) ∙ a.others j w (λ k q. h k (omega arith));
+  size = length-set nums (basic t i) value ∙ a.size;
+  value = λ k q w. elim (cases_eq k i) as (λ _. at (set nums (basic t i) value) (basic t k) *ℤ own t k ≡ right_side t k *ℤ over) [
+    | inl x ↦
+        let n = a.size in
+        let here : at (set nums (basic t i) value) (basic t i) ≡ value = get_or-set_same nums (basic t i) value (pos 0) (omega arith) in
+        subst (λ j. at (set nums (basic t i) value) (basic t j) *ℤ own t j ≡ right_side t j *ℤ over) (sym x) (ap (λ z. z *ℤ own t i) here ∙ e)
+    | inr x ↦
+        let differs : basic t k ≢ basic t i = basis_differs (width t) (t.height + 1) (basic t) (entry t) s.canonical k i (omega arith) (omega arith) x in
+        ap (λ z. z *ℤ own t k) (get_or-set_other nums (basic t i) (basic t k) value (pos 0) differs) ∙ a.value k (omega arith) w
+  ];
+  others = λ j w h. get_or-set_other nums (basic t i) j value (pos 0) (h i (omega arith)) ∙ a.others j w (λ k q. h k (omega arith));
 }
 
 -- a row whose basic column is not structural
 pub numerators_over : (t : Table) (i : ℕ) (over : ℤ) (nums : List ℤ) → t.columns ≤ basic t i → AreNumerators t i over nums → AreNumerators t (i + 1) over nums
 numerators_over t i over nums b a = record {
-    size = a.size;
-    value = λ k q w. elim (cases_eq k i) as (λ _. at nums (basic t k) *ℤ own t k ≡ right_side t k *ℤ over) [
-        inl x ↦ absurd (let same : basic t k ≡ basic t i = ap (basic t) x in omega arith)
-      | inr x ↦ a.value k (omega arith) w ];
-    others = λ j w h. a.others j w (λ k q. h k (omega arith));
+  size = a.size;
+  value = λ k q w. elim (cases_eq k i) as (λ _. at nums (basic t k) *ℤ own t k ≡ right_side t k *ℤ over) [
+    | inl x ↦ absurd (let same : basic t k ≡ basic t i = ap (basic t) x in omega arith)
+    | inr x ↦ a.value k (omega arith) w
+  ];
+  others = λ j w h. a.others j w (λ k q. h k (omega arith));
 }
 
 -- whether the artificial has left does not matter to the values

@@ -12,3 +12,4 @@ pub mod Certificates
 pub mod Fractions
 pub mod Solutions
 pub mod Commons
+pub mod Attains

@@ -35,7 +35,7 @@ use Rattle.exact_simplex.proofs.FirstTable.{standard_parts, all_at}
 use Rattle.exact_simplex.proofs.Certificates.{below_at, row_equation, goal_equation, scale_positive}
 
 -- terms with ids below n stand below what is more
-all_below : (n m : ℕ) (ts : List (ℕ × ℤ)) → n ≤ m → ids_below n ts ≡ true → AllBelow m ts
+pub all_below : (n m : ℕ) (ts : List (ℕ × ℤ)) → n ≤ m → ids_below n ts ≡ true → AllBelow m ts
 all_below n m [] l h = λ k d p. absurd (omega arith)
 all_below n m (t ∷ ts) l h =
     let p = and_parts (nat_lt t.0 n) (ids_below n ts) h in
@@ -50,7 +50,7 @@ scaled_below k m (t ∷ ts) n l h =
     All-cons (λ u. u.0 < m) (t.0, k *ℤ t.1) (scaled k ts) (omega arith) (scaled_below k m ts n l p.1)
 
 -- what holds at each place of a list holds of all its elements
-all_from : {X : Type 0} (P : X → Type 0) (d : X) (xs : List X) → ((k : ℕ) → k < length xs → P (get_or xs k d)) → All P xs
+pub all_from : {X : Type 0} (P : X → Type 0) (d : X) (xs : List X) → ((k : ℕ) → k < length xs → P (get_or xs k d)) → All P xs
 all_from P d xs h = λ k e l. subst P (get_or_default xs k d e l) (h k l)
 
 module _ (form : Standard) (t : Table) (s : IsSound t) (tab : IsTableauOf form t) (v : ℕ → ℤ) (none : v (artificial t) ≡ pos 0) (met : Meets (width t) (t.height + 1) (in_force t (equation_of form)) v) where

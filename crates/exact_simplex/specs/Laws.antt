@@ -7,6 +7,9 @@ use Rattle.exact_simplex.specs.declared.moves.Move.TheVariants.{Optimal, Unbound
 use Rattle.exact_simplex.specs.Table.{Table, IsSound, entry, right_side, basic, artificial, right, scale, width}
 use Rattle.exact_simplex.specs.Bland.{bland_move, row_of}
 use Rattle.exact_simplex.specs.Equations.{IsTableauOf}
+use Rattle.exact_simplex.specs.Values.{IsPointOf}
+use Rattle.int_linear.specs.Sums.{at}
+use Rattle.lp_rows.specs.Points.{PointValue}
 
 -- the artificial is not basic
 abbrev pub HasNoArtificial : Table → Type 0
@@ -41,3 +44,7 @@ BasicSolutionIsPoint = (form : Standard) (t : Table) (over : ℤ) (v : ℕ → �
 -- where the form is unbounded along a column, each direction along it is a ray of the form
 abbrev pub UnboundedHasRay : Type 0
 UnboundedHasRay = (form : Standard) (t : Table) (enter : ℕ) (step : ℤ) (v : ℕ → ℤ) → IsSound t → IsTableauOf form t → HasNoArtificial t → bland_move t ≡ Unbounded enter → pos 0 <ℤ step → IsEnteringDirection t enter step v → IsFormRay form v
+
+-- the point of the basis of a feasible tableau attains the level
+abbrev pub PointAttainsLevel : Type 0
+PointAttainsLevel = (form : Standard) (t : Table) (point : PointValue) → IsSound t → IsTableauOf form t → HasNoArtificial t → IsFeasible t → IsPointOf t point → AttainsLevel form t point.over (at point.nums)

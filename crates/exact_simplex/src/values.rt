@@ -11,8 +11,8 @@ ghost use Rattle.exact_simplex.specs.Table.{IsSound};
 ghost use Rattle.exact_simplex.specs.Values.{IsCommon, IsWideCommon, AreNumerators, IsWideNumerator, IsNextCommon, IsNextWide, DividesOver, IsPointOf, IsPointRefusal};
 
 use crate::choosing::number;
-use fractions::{divisor_of_both, exact_quotient, lcm};
 use crate::moves::ReadOut;
+use fractions::{divisor_of_both, exact_quotient, lcm};
 use lp_rows::{Point, WideAt};
 use simplex_rows::Row;
 use std::alloc::Global;
@@ -49,13 +49,22 @@ fn numerator(own: i128, right: i128, over: i128) -> Option<i128>
 }
 
 /// The least common multiple of the reduced denominators of the basic values, or the row at which it leaves 128 bits.
-pub(crate) fn common(rows: &[Row], basis: &[usize], columns: usize, height: usize) -> Result<i128, usize>
+pub(crate) fn common(
+    rows: &[Row],
+    basis: &[usize],
+    columns: usize,
+    height: usize,
+) -> Result<i128, usize>
     requires { IsSound (table_of columns height rows.now basis.now) }
     ensures { MatchResult result (IsCommon (table_of columns height rows.now basis.now) height) (IsWideCommon (table_of columns height rows.now basis.now)) }
 {
     let mut over = 1;
     for i in 0..height {
-        match next_common(over, number(rows, i, basis[i]), number(rows, i, columns + height + 1)) {
+        match next_common(
+            over,
+            number(rows, i, basis[i]),
+            number(rows, i, columns + height + 1),
+        ) {
             Some(next) => over = next,
             None => return Err(i),
         }
@@ -65,7 +74,14 @@ pub(crate) fn common(rows: &[Row], basis: &[usize], columns: usize, height: usiz
 
 /// Writes the numerators of the structural columns over this denominator into zeros, or names the row at which one
 /// leaves 128 bits.
-pub(crate) fn write_numerators(nums: &mut [i128], rows: &[Row], basis: &[usize], columns: usize, height: usize, over: i128) -> Option<usize>
+pub(crate) fn write_numerators(
+    nums: &mut [i128],
+    rows: &[Row],
+    basis: &[usize],
+    columns: usize,
+    height: usize,
+    over: i128,
+) -> Option<usize>
     requires sound { IsSound (table_of columns height rows.now basis.now) }
     requires common { IsCommon (table_of columns height rows.now basis.now) height over }
     requires blank { AreNumerators (table_of columns height rows.now basis.now) 0 over nums.old }
@@ -74,7 +90,11 @@ pub(crate) fn write_numerators(nums: &mut [i128], rows: &[Row], basis: &[usize],
     for i in 0..height {
         let column = basis[i];
         if column < columns {
-            match numerator(number(rows, i, column), number(rows, i, columns + height + 1), over) {
+            match numerator(
+                number(rows, i, column),
+                number(rows, i, columns + height + 1),
+                over,
+            ) {
                 Some(value) => nums[column] = value,
                 None => return Some(i),
             }
@@ -84,7 +104,13 @@ pub(crate) fn write_numerators(nums: &mut [i128], rows: &[Row], basis: &[usize],
 }
 
 /// The point of the basis, or the row at which the first of its numbers leaves 128 bits.
-pub(crate) fn point_of(alloc: Global, rows: &[Row], basis: &[usize], columns: usize, height: usize) -> Result<Point, ReadOut>
+pub(crate) fn point_of(
+    alloc: Global,
+    rows: &[Row],
+    basis: &[usize],
+    columns: usize,
+    height: usize,
+) -> Result<Point, ReadOut>
     requires { IsSound (table_of columns height rows.now basis.now) }
     ensures point { IfOk result (IsPointOf (table_of columns height rows.now basis.now)) }
     ensures refused { IfErr result (IsPointRefusal (table_of columns height rows.now basis.now)) }

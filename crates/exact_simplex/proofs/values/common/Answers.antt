@@ -39,5 +39,5 @@ loop-i-preserved c =
     let more : IsNextCommon c.loop-i.over c.number.result c.number-in-loop-i.result c.in-Some.next = subst (λ z. IsNextCommon z c.number.result c.number-in-loop-i.result c.in-Some.next) over_is found in
     let common : IsCommon (table_of c.args.columns c.args.height c.args.rows.now c.args.basis.now) c.loop-i.i c.loop-i.over = search rules in
     let next : IsCommon (table_of c.args.columns c.args.height c.args.rows.now c.args.basis.now) (c.loop-i.i + 1) c.in-Some.next =
-        more_at (table_of c.args.columns c.args.height c.args.rows.now c.args.basis.now) c.loop-i.i c.loop-i.over c.in-Some.next c.number.result c.number-in-loop-i.result c.number.ensures.value c.number-in-loop-i.ensures.value common more in
+    more_at (table_of c.args.columns c.args.height c.args.rows.now c.args.basis.now) c.loop-i.i c.loop-i.over c.in-Some.next c.number.result c.number-in-loop-i.result c.number.ensures.value c.number-in-loop-i.ensures.value common more in
     simp to_z-of_z next

@@ -42,7 +42,7 @@ returns-clause-some c =
     let quotient : c.exact_quotient.result *ℤ c.value_of-den.result.0 ≡ c.args.over = simp to_z-of_z at c.exact_quotient.ensures in
     let product : SomeIff c.checked_mul.result (FitsSigned w128 (c.value_of-den.result.1 *ℤ c.exact_quotient.result)) (c.value_of-den.result.1 *ℤ c.exact_quotient.result) = simp to_z-of_z at c.checked_mul.ensures in
     some_is c.args.own c.args.right c.args.over (c.value_of-den.result.1 *ℤ c.exact_quotient.result) c.checked_mul.result
-        (value_is c.args.own c.args.right c.args.over c.value_of-den.result.0 c.value_of-den.result.1 value.divisor c.exact_quotient.result value.first value.second quotient) product
+    (value_is c.args.own c.args.right c.args.over c.value_of-den.result.0 c.value_of-den.result.1 value.divisor c.exact_quotient.result value.first value.second quotient) product
 
 pub returns-clause-none : goal.returns-clause-none
 returns-clause-none c =
@@ -56,4 +56,4 @@ returns-clause-none c =
     let quotient : c.exact_quotient.result *ℤ c.value_of-den.result.0 ≡ c.args.over = simp to_z-of_z at c.exact_quotient.ensures in
     let product : SomeIff c.checked_mul.result (FitsSigned w128 (c.value_of-den.result.1 *ℤ c.exact_quotient.result)) (c.value_of-den.result.1 *ℤ c.exact_quotient.result) = simp to_z-of_z at c.checked_mul.ensures in
     none_is c.args.own c.args.right c.args.over (c.value_of-den.result.1 *ℤ c.exact_quotient.result) c.checked_mul.result
-        (value_is c.args.own c.args.right c.args.over c.value_of-den.result.0 c.value_of-den.result.1 value.divisor c.exact_quotient.result value.first value.second quotient) product
+    (value_is c.args.own c.args.right c.args.over c.value_of-den.result.0 c.value_of-den.result.1 value.divisor c.exact_quotient.result value.first value.second quotient) product

@@ -21,7 +21,7 @@ numerator-requires-clause-multiple c =
     let fits_own : FitsSigned w128 c.number.result = search rules in
     let fits_right : FitsSigned w128 c.number-then-column-columns.result = search rules in
     let divides : DividesOver c.number.result c.number-then-column-columns.result c.args.over =
-        divides_at (table_of c.args.columns c.args.height c.args.rows.now c.args.basis.now) c.loop-i.i c.args.over c.number.result c.number-then-column-columns.result c.number.ensures.value c.number-then-column-columns.ensures.value c.loop-i-test.true c.requires.common in
+    divides_at (table_of c.args.columns c.args.height c.args.rows.now c.args.basis.now) c.loop-i.i c.args.over c.number.result c.number-then-column-columns.result c.number.ensures.value c.number-then-column-columns.ensures.value c.loop-i-test.true c.requires.common in
     simp to_z-of_z divides
 
 pub loop-i-preserved : goal.loop-i-preserved
@@ -30,18 +30,19 @@ loop-i-preserved c =
     let fits_over = c.ranges.over in
     let before : AreNumerators (table_of c.args.columns c.args.height c.args.rows.now c.args.basis.now) c.loop-i.i c.args.over c.loop-i.nums = simp to_z-of_z at c.loop-i.invariant in
     let next : AreNumerators (table_of c.args.columns c.args.height c.args.rows.now c.args.basis.now) (c.loop-i.i + 1) c.args.over c.if-column-columns.nums =
-        elim c.if-column-columns.branch as (λ _. AreNumerators t (c.loop-i.i + 1) c.args.over c.if-column-columns.nums) [
-            then-column-columns+in-Some w ↦
-                let fits_own : FitsSigned w128 w.number.result = search rules in
-                let fits_right : FitsSigned w128 w.number-then-column-columns.result = search rules in
-                let fits_value : FitsSigned w128 w.in-Some.value = search rules in
-                let value : w.in-Some.value *ℤ w.number.result ≡ w.number-then-column-columns.result *ℤ c.args.over = simp to_z-of_z at w.in-Some.ensures.some in
-                let written : c.if-column-columns.nums ≡ set c.loop-i.nums (slice_index_or c.args.basis.now c.loop-i.i 0) w.in-Some.value = simp to_z-of_z at w.nums-is in
-                subst (λ ns. AreNumerators t (c.loop-i.i + 1) c.args.over ns) (sym written)
-                    (numerators_more t c.requires.sound c.loop-i.i c.args.over w.in-Some.value c.loop-i.nums c.loop-i-test.true w.if-column-columns.true before
-                        (value_at t c.loop-i.i c.args.over w.number.result w.number-then-column-columns.result w.in-Some.value w.number.ensures.value w.number-then-column-columns.ensures.value value))
-          | else-column-columns w ↦
-                let kept : c.if-column-columns.nums ≡ c.loop-i.nums = w.nums-is in
-                subst (λ ns. AreNumerators t (c.loop-i.i + 1) c.args.over ns) (sym kept)
-                    (numerators_over t c.loop-i.i c.args.over c.loop-i.nums w.if-column-columns.false before) ] in
+    elim c.if-column-columns.branch as (λ _. AreNumerators t (c.loop-i.i + 1) c.args.over c.if-column-columns.nums) [
+      | then-column-columns+in-Some w ↦
+          let fits_own : FitsSigned w128 w.number.result = search rules in
+          let fits_right : FitsSigned w128 w.number-then-column-columns.result = search rules in
+          let fits_value : FitsSigned w128 w.in-Some.value = search rules in
+          let value : w.in-Some.value *ℤ w.number.result ≡ w.number-then-column-columns.result *ℤ c.args.over = simp to_z-of_z at w.in-Some.ensures.some in
+          let written : c.if-column-columns.nums ≡ set c.loop-i.nums (slice_index_or c.args.basis.now c.loop-i.i 0) w.in-Some.value = simp to_z-of_z at w.nums-is in
+          subst (λ ns. AreNumerators t (c.loop-i.i + 1) c.args.over ns) (sym written)
+          (numerators_more t c.requires.sound c.loop-i.i c.args.over w.in-Some.value c.loop-i.nums c.loop-i-test.true w.if-column-columns.true before
+          (value_at t c.loop-i.i c.args.over w.number.result w.number-then-column-columns.result w.in-Some.value w.number.ensures.value w.number-then-column-columns.ensures.value value))
+      | else-column-columns w ↦
+          let kept : c.if-column-columns.nums ≡ c.loop-i.nums = w.nums-is in
+          subst (λ ns. AreNumerators t (c.loop-i.i + 1) c.args.over ns) (sym kept)
+          (numerators_over t c.loop-i.i c.args.over c.loop-i.nums w.if-column-columns.false before)
+    ] in
     simp to_z-of_z next
