@@ -1,0 +1,4 @@
+//! Reads model and point texts.
+
+mod class;
+mod line;
