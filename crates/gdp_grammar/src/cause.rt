@@ -7,8 +7,6 @@ pub enum ReadCause {
     Header,
     /// The line has none of the shapes, or stands where it isn't allowed.
     Form,
-    /// The line is of a kind that isn't read yet.
-    NotBuilt,
     /// A declared name is taken, or one variable stands twice in one sum.
     NameTwice,
     /// A name wasn't declared before.
