@@ -1,2 +1,7 @@
 pub mod Ring
+pub mod Signs
+pub mod Totals
+pub mod Inner
 pub mod Dots
+pub mod Divisors
+pub mod Written

@@ -1,3 +1,5 @@
+pub mod Divisors
 pub mod Laws
 pub mod Sums
 pub mod Terms
+pub mod Written

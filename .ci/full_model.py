@@ -1,0 +1,50 @@
+#!/usr/bin/env python3
+"""The largest model that the limits let a planner write: 500 variables, 1,000 rows with a term of each, 8,388,608 bytes.
+
+`full_model.py FOLDER` writes `full.gdp`, `full.point`, at which its last row holds with nothing to spare, and
+`full-fails.point`, at which the last row, on line 1501, is one short.
+"""
+
+import pathlib
+import random
+import sys
+
+LIMIT = 8_388_608
+VARIABLES = 500
+ROWS = 1_000
+
+
+def full_model():
+    """Gives the model's text, a point that holds, and a point that fails at the last row."""
+    draw = random.Random(1)
+    names = [f"f{j:03}" for j in range(VARIABLES)]
+    values = [draw.randint(1, 99) for _ in names]
+    head = "gdp 1\n" + "".join(f"var {name} real 0 100\n" for name in names)
+
+    def row(digits, relation, right):
+        numbers = [draw.randint(10 ** (n - 1), 10**n - 1) for n in digits]
+        terms = " + ".join(f"{c} {name}" for c, name in zip(numbers, names))
+        return f"row {terms} {relation} {right(numbers)}\n"
+
+    # Each coefficient has eight digits, and as many of the first have nine as fill the limit to the byte.
+    last = row([8] * VARIABLES, ">=", lambda numbers: sum(c * x for c, x in zip(numbers, values)))
+    wide = 10**15 - 1
+    least = len(row([8] * VARIABLES, "<=", lambda numbers: wide))
+    spare = LIMIT - len(head) - len(last) - (ROWS - 1) * least
+    rows = []
+    for i in range(ROWS - 1):
+        longer = min(max(spare - i * VARIABLES, 0), VARIABLES)
+        rows.append(row([9] * longer + [8] * (VARIABLES - longer), "<=", lambda numbers: wide))
+    return (head + "".join(rows) + last).encode(), point(names, values), point(names, [values[0] - 1] + values[1:])
+
+
+def point(names, values):
+    """Gives the text of the point with these whole numbers."""
+    lines = "".join(f"val {name} {value}\n" for name, value in zip(names, values))
+    return f"gdp-point 1\nover 1\n{lines}end\n".encode()
+
+
+if __name__ == "__main__":
+    folder = pathlib.Path(sys.argv[1])
+    for name, text in zip(("full.gdp", "full.point", "full-fails.point"), full_model()):
+        (folder / name).write_bytes(text)

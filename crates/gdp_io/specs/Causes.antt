@@ -1,0 +1,10 @@
+-- When a call may fail: only where a count of faults rose.
+use Rattle.std.specs.Prelude.{ℕ, ◌+◌, ◌-◌, ◌^◌, ◌≤◌, List, min}
+
+-- the count rose, or stands at its last value
+abbrev pub Rose : ℕ → ℕ → Type 0
+Rose before now = min (before + 1) (2 ^ 64 - 1) ≤ now
+
+-- a count for each name, none of which fell
+abbrev pub NoneFell : (List ℕ → ℕ) → (List ℕ → ℕ) → Type 0
+NoneFell before now = (name : List ℕ) → before name ≤ now name

@@ -1,0 +1,9 @@
+pub mod Causes
+pub mod Shelf
+pub mod Sink
+pub mod Folder
+pub mod Calls
+pub mod MemShelf
+pub mod MemSink
+pub mod SureShelf
+pub mod Names

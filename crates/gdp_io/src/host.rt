@@ -1,0 +1,96 @@
+//! The host's files and streams: the trusted edge. What they hold is told by no contract.
+ghost use Rattle.std.specs.Prelude.{◌≡◌, ℕ, ◌≤◌, List, None, IsSome};
+
+use crate::shelves::{Failed, Shelf};
+use crate::sinks::Sink;
+use std::fs;
+use std::io::Read;
+use std::rt::Files;
+
+/// The host's files. Each error of the host is counted.
+#[derive(Drop)]
+pub struct FileShelf<'a, R: Files> {
+    rt: &'a R,
+    file: Option<R::File>,
+    faults: u64,
+}
+
+impl<'a, R: Files> FileShelf<'a, R> {
+    /// The files that this runtime opens.
+    pub fn new(rt: &'a R) -> FileShelf<'a, R>
+        ensures closed { (name : List ℕ) → ¬ ⟦<FileShelf<'a, R> as Shelf>⟧.is_open result name }
+        ensures count { (name : List ℕ) → ⟦<FileShelf<'a, R> as Shelf>⟧.faults result name ≡ 0 }
+    {
+        FileShelf {
+            rt,
+            file: None,
+            faults: 0,
+        }
+    }
+}
+
+impl<'a, R: Files> Shelf for FileShelf<'a, R> {
+    ghost contents = { λ s _. None };
+
+    ghost is_at = { λ s _ _. ⊥ };
+
+    ghost is_open = { λ s _. IsSome s.file };
+
+    ghost faults = { λ s _. s.faults };
+
+    fn begin(&mut self, name: &str) -> Result<(), Failed> {
+        match fs::open(self.rt, name) {
+            Ok(file) => {
+                self.file = Some(file);
+                Ok(())
+            }
+            Err(_) => {
+                self.file = None;
+                self.faults = self.faults.saturating_add(1);
+                Err(Failed)
+            }
+        }
+    }
+
+    fn read(&mut self, into: &mut [u8]) -> Result<usize, Failed> {
+        if let Some(file) = &mut self.file {
+            if let Ok(count) = file.read(into) {
+                return Ok(count);
+            }
+        }
+        self.faults = self.faults.saturating_add(1);
+        Err(Failed)
+    }
+}
+
+/// A stream of the host, as standard output. Each error, and each write that takes nothing, is counted.
+#[derive(Drop)]
+pub struct OutSink<W: std::io::Write + Drop> {
+    to: W,
+    faults: u64,
+}
+
+impl<W: std::io::Write + Drop> OutSink<W> {
+    /// What this stream takes.
+    pub fn new(to: W) -> OutSink<W>
+        ensures { ⟦<OutSink<W> as Sink>⟧.faults result ≡ 0 }
+    {
+        OutSink { to, faults: 0 }
+    }
+}
+
+impl<W: std::io::Write + Drop> Sink for OutSink<W> {
+    ghost written = { λ s. None };
+
+    ghost faults = { λ s. s.faults };
+
+    fn write(&mut self, piece: &[u8]) -> Result<usize, Failed> {
+        match self.to.write(piece) {
+            Ok(count) if 0 < count => Ok(count),
+            _ => {
+                self.faults = self.faults.saturating_add(1);
+                Err(Failed)
+            }
+        }
+    }
+}
