@@ -1,5 +1,7 @@
 //! Reads model and point texts.
 
 mod class;
+mod fault;
+mod form;
 mod line;
 mod token;

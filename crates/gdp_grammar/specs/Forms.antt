@@ -1,5 +1,5 @@
 -- The forms of lines, by their tokens.
-use Rattle.std.specs.Prelude.{ℕ, zero, suc, Bool, true, false, not, ◌&&◌, ◌==◌, List, [], ◌∷◌, length, Option, Some, None, Result, Ok, Err, if◌then◌else◌, codes}
+use Rattle.std.specs.Prelude.{ℕ, zero, suc, Bool, true, false, not, ◌&&◌, ◌==◌, List, [], ◌∷◌, length, drop, Option, Some, None, Result, Ok, Err, if◌then◌else◌, codes}
 use Rattle.std.specs.Str.{bytes_eq}
 use Rattle.lp_rows.specs.declared.kinds.Kind.{Kind}
 use Rattle.lp_rows.specs.declared.kinds.Kind.TheVariants as kind
@@ -63,12 +63,16 @@ signed_of ps = do
   size ← numeral_of (sign_of ps).1
   Ok (record { is_negative = (sign_of ps).0; size = size.0 }, size.1)
 
+-- a low bound after its sign: a number, or `inf` behind a minus for none
+unfoldable pub low_after : Bool → List Piece → Result (Option Signed × List Piece) ReadCause
+low_after true (Word word ∷ ps) = if bytes_eq word (codes "inf") then Ok (None, ps) else Err cause.Form
+low_after is_negative ps = do
+  size ← numeral_of ps
+  Ok (Some (record { is_negative = is_negative; size = size.0 }), size.1)
+
 -- a low bound: a number, or `-inf` for none
-unfoldable pub low_of : List Piece → Result (Option Signed × List Piece) ReadCause
-low_of (Mark Minus ∷ Word word ∷ ps) = if bytes_eq word (codes "inf") then Ok (None, ps) else Err cause.Form
-low_of ps = do
-  low ← signed_of ps
-  Ok (Some low.0, low.1)
+abbrev pub low_of : List Piece → Result (Option Signed × List Piece) ReadCause
+low_of ps = low_after (sign_of ps).0 (sign_of ps).1
 
 -- a high bound: a number, or `inf` for none
 unfoldable pub high_of : List Piece → Result (Option Signed × List Piece) ReadCause
@@ -104,15 +108,61 @@ abbrev pub is_nought : Numeral → Bool
 is_nought (Whole digits) = bytes_eq digits (codes "0")
 is_nought _ = false
 
-mutual
-  -- at most n terms joined by signs, the first after this sign
-  abbrev pub summands_within : ℕ → Bool → List Piece → Result (List Summand × List Piece) ReadCause
-  summands_within zero is_negative ps = Err cause.Form
-  summands_within (suc n) is_negative ps = do
-    first ← summand_of is_negative ps
-    more_summands n first.0 first.1 (joint_of first.1)
+-- a term that no sign follows ends the sum; after a sign the others come
+abbrev pub joined : Summand → Option Bool → List Piece → (Bool → List Piece → Result (List Summand × List Piece) ReadCause) → Result (List Summand × List Piece) ReadCause
+joined first None ps others = Ok (first ∷ [], ps)
+joined first (Some is_negative) ps others = do
+  more ← others is_negative (drop 1 ps)
+  Ok (first ∷ more.0, more.1)
 
-  -- what follows a term: another one after a sign, or the end of the sum
-  abbrev pub more_summands : ℕ → Summand → List Piece → Option Bool → Result (List Summand × List Piece) ReadCause
-  more_summands n first ps None = Ok (first ∷ [], ps)
-  more_summands n first ps (Some is_negative) = Err cause.Form
+-- at most n terms joined by signs, the first with this sign
+abbrev pub summands_within : ℕ → Bool → List Piece → Result (List Summand × List Piece) ReadCause
+summands_within zero is_negative ps = Err cause.Form
+summands_within (suc n) is_negative ps = do
+  first ← summand_of is_negative ps
+  joined first.0 (joint_of first.1) first.1 (λ sign rest. summands_within n sign rest)
+
+-- terms joined by signs, the first with an optional sign
+unfoldable pub summands_of : List Piece → Result (List Summand × List Piece) ReadCause
+summands_of ps = summands_within (length ps) (sign_of ps).0 (sign_of ps).1
+
+-- a name comes next
+abbrev pub word_next : List Piece → Bool
+word_next (Word word ∷ ps) = true
+word_next _ = false
+
+-- a sum: `0` alone, or terms
+unfoldable pub sum_of : List Piece → Result (List Summand × List Piece) ReadCause
+sum_of (Number number ∷ ps) = if is_nought number && not (word_next ps) then Ok ([], ps) else summands_of (Number number ∷ ps)
+sum_of ps = summands_of ps
+
+-- var NAME KIND LOW HIGH
+unfoldable pub var_of : List Piece → Result Form ReadCause
+var_of ps = do
+  name ← name_of ps
+  kind ← kind_of name.1
+  low ← low_of kind.1
+  high ← high_of low.1
+  end ← ended high.1
+  Ok (Var name.0 kind.0 low.0 high.0)
+
+-- row SUM REL SIGNED
+unfoldable pub row_of : List Piece → Result Form ReadCause
+row_of ps = do
+  sum ← sum_of ps
+  rel ← rel_of sum.1
+  right ← signed_of rel.1
+  end ← ended right.1
+  Ok (Row sum.0 rel.0 right.0)
+
+-- the form of a line after its first word
+abbrev pub form_after : List ℕ → List Piece → Result Form ReadCause
+form_after word ps =
+    if bytes_eq word (codes "var") then var_of ps
+    else (if bytes_eq word (codes "row") then row_of ps
+    else Err cause.Form)
+
+-- the form of a line
+abbrev pub form_of : List Piece → Result Form ReadCause
+form_of (Word word ∷ ps) = form_after word ps
+form_of _ = Err cause.Form

@@ -1,5 +1,8 @@
+pub mod Causes
 pub mod Classes
+pub mod Forms
+pub mod Keywords
 pub mod Lines
-pub mod Words
 pub mod Numerals
 pub mod Tokens
+pub mod Words
