@@ -1,11 +1,25 @@
 //! Exact fractions of 128-bit integers, and the words that nearly every contract cites.
 //!
-//! Each call gives the exact value, or says that a number left 128 bits. `specs/Memory.antt` has the words
-//! for want of memory and for calls that change a value, `specs/Width.antt` those for what fits.
+//! Each call gives the exact value, or says that a number left 128 bits. Read `memory.rt` and `wide.rt`
+//! with `specs/Memory.antt` (want of memory, and calls that change a value) and `specs/Width.antt` (what
+//! fits), then `divisors.rt`, and `frac.rt` with `specs/Fraction.antt`.
 #![tactic(auto)]
 
+pub mod divisors;
+pub mod frac;
+pub mod laws;
 pub mod memory;
+pub mod quotients;
+pub mod sums;
 pub mod wide;
 
+pub use divisors::{divisor_of_both, exact_quotient, gcd, lcm};
+pub use frac::Frac;
+pub use laws::one_lowest_form;
 pub use memory::Memory;
+pub use quotients::compare_quotients;
+pub use sums::add_product;
 pub use wide::Wide;
+
+#[cfg(test)]
+mod tests;

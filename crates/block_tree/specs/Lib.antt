@@ -1,0 +1,9 @@
+pub mod Building
+pub mod Names
+pub mod Nesting
+pub mod Satisfied
+pub mod Scaling
+pub mod Tests
+pub mod Tree
+pub mod Values
+pub mod View

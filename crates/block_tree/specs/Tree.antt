@@ -1,0 +1,44 @@
+-- The tree of blocks, as plain data.
+use Rattle.std.specs.Prelude.{ℕ, ◌+◌, zero, List, length}
+use Rattle.lp_rows.specs.Rows.{RowValue}
+use Rattle.block_tree.specs.declared.tree.Mode.{Mode}
+
+-- what a disjunction has beside its disjuncts
+pub record DisjunctionHead : Type 0 where
+  pub mode : Mode
+  pub mark : ℕ
+
+-- what a disjunct has beside its block
+pub record DisjunctHead : Type 0 where
+  pub indicator : ℕ
+  pub mark : ℕ
+
+-- what a block has beside its disjunctions: its rows, each with its mark
+pub record BlockItems : Type 0 where
+  pub rows : List (RowValue × ℕ)
+
+mutual
+  -- a block, and under it lists of disjunctions and of disjuncts
+  pub data BlockTree : Type 0 where
+    block : BlockItems → Disjunctions → BlockTree
+
+  pub data Disjunctions : Type 0 where
+    no_disjunctions : Disjunctions
+    disjunction : DisjunctionHead → Disjuncts → Disjunctions → Disjunctions
+
+  pub data Disjuncts : Type 0 where
+    no_disjuncts : Disjuncts
+    disjunct : DisjunctHead → BlockTree → Disjuncts → Disjuncts
+
+-- how many rows stand in a block and below it
+abbrev mutual
+  pub row_count : BlockTree → ℕ
+  row_count (block items ds) = length items.rows + row_count_below ds
+
+  pub row_count_below : Disjunctions → ℕ
+  row_count_below no_disjunctions = zero
+  row_count_below (disjunction head js ds) = row_count_within js + row_count_below ds
+
+  pub row_count_within : Disjuncts → ℕ
+  row_count_within no_disjuncts = zero
+  row_count_within (disjunct head b js) = row_count b + row_count_within js

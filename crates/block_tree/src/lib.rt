@@ -1,0 +1,16 @@
+//! Models: variables, a goal, and a tree of blocks with rows and disjunctions; how one is built, and when a
+//! point satisfies it.
+//!
+//! A builder stands for what it was given: each call appends exactly what it says, or refuses with the first cause
+//! that holds and changes nothing; and the test of a point answers the first test that fails or is wide.
+//! Read `tree.rt` for the tree, `models.rt` for what a model keeps, `builder.rt` for how it is built, and
+//! `satisfying.rt` for the test of a point.
+#![tactic(auto)]
+
+pub mod bounds;
+pub mod errors;
+pub mod tree;
+
+pub use bounds::Bound;
+pub use errors::{BuildError, SumWide, Verdict};
+pub use tree::{Block, Disjunct, Disjunction, Mode};

@@ -1,0 +1,10 @@
+pub mod Arithmetic
+pub mod Calls
+pub mod Division
+pub mod Multiples
+pub mod Order
+pub mod Outcomes
+pub mod Reduction
+pub mod Rounding
+pub mod Scaled
+pub mod Widths

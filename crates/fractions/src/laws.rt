@@ -1,0 +1,8 @@
+//! Laws, each the contract of a function with an empty body.
+
+ghost use Rattle.fractions.specs.Laws.{OneLowestForm};
+
+/// Two fractions in lowest terms that are one quotient are one fraction.
+pub fn one_lowest_form()
+    ensures { OneLowestForm }
+{}

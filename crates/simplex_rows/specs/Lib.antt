@@ -1,0 +1,4 @@
+pub mod Dropped
+pub mod Laws
+pub mod Steps
+pub mod Tableau

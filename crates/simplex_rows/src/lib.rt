@@ -1,0 +1,4 @@
+//! The rows of an exact simplex tableau.
+#![tactic(auto)]
+
+pub mod laws;
