@@ -1,6 +1,8 @@
 -- The first line of a text, by the first newline.
-use Rattle.std.proofs.Common.{◌≡◌, ◌≢◌, ℕ, zero, suc, ◌<◌, ◌≤◌, Bool, true, false, cond, eqb, ◌&&◌, not, List, [], ◌∷◌, length, get_or, take, ◌⊎◌, inl, inr, refl, ap, sym, ◌∙◌, arith}
+use Rattle.std.proofs.Common.{◌≡◌, ◌≢◌, ℕ, zero, suc, ◌<◌, ◌≤◌, Bool, true, false, cond, eqb, ◌&&◌, not, List, [], ◌∷◌, length, get_or, take, ◌⊎◌, inl, inr, refl, ap, sym, subst, ◌∙◌, arith}
 use Rattle.std.proofs.lemmas.Bool.Decides.{nat_tests}
+use Rattle.std.specs.Str.{IsAscii}
+use Rattle.std.proofs.lemmas.Str.Ascii.{IsAscii-cons, IsAscii-nil}
 use Rattle.gdp_grammar.specs.declared.class.Class.{Class}
 use Rattle.std.proofs.lemmas.Bool.{cond-true, cond-false}
 use Rattle.gdp_grammar.specs.declared.class.Class.TheVariants as class
@@ -101,3 +103,15 @@ rest_shorter kind [] = omega arith
 rest_shorter kind (b ∷ bs) = elim (told (belongs kind b)) [
     inl yes_it ↦ let e : rest kind (b ∷ bs) ≡ rest kind bs = cond-true (belongs kind b) _ _ yes_it in omega (arith, ap length e, rest_shorter kind bs)
   | inr other ↦ let e : rest kind (b ∷ bs) ≡ b ∷ bs = cond-false (belongs kind b) _ _ other in omega (arith, ap length e) ]
+
+-- the bytes of a name are ASCII
+byte_ascii : (b : ℕ) → belongs class.Name b ≡ true → b < 128
+byte_ascii b e = grind (arith, nat_tests)
+
+pub name_ascii : (bytes : List ℕ) → IsAscii (front class.Name bytes)
+name_ascii [] = IsAscii-nil
+name_ascii (b ∷ bs) = elim (told (belongs class.Name b)) [
+    inl e ↦ let is : front class.Name (b ∷ bs) ≡ b ∷ front class.Name bs = cond-true (belongs class.Name b) _ _ e in
+      subst (λ (xs : List ℕ). IsAscii xs) (sym is) (IsAscii-cons b (front class.Name bs) (byte_ascii b e) (name_ascii bs))
+  | inr e ↦ let is : front class.Name (b ∷ bs) ≡ [] = cond-false (belongs class.Name b) _ _ e in
+      subst (λ (xs : List ℕ). IsAscii xs) (sym is) IsAscii-nil ]

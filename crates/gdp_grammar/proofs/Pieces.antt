@@ -37,7 +37,7 @@ double_shorter symbol [] = omega arith
 double_shorter symbol (b ∷ bs) = choice_shorter (eqb b 61) _ _ (length (b ∷ bs)) (λ e. omega arith) (λ e. omega arith)
 
 start_in_name : (b : ℕ) → belongs class.Start b ≡ true → belongs class.Name b ≡ true
-start_in_name b e = ap (λ x. x || (belongs class.Digit b || eqb b 46)) e
+start_in_name b e = ap (λ x. x || belongs class.Digit b || eqb b 46) e
 
 -- a token takes its first byte, and what it takes of the others
 pub token_shorter : (b : ℕ) (bs : List ℕ) → length (token_of b bs).1 ≤ length bs

@@ -124,17 +124,21 @@ summands_within (suc n) is_negative ps = do
 
 -- terms joined by signs, the first with an optional sign
 unfoldable pub summands_of : List Piece → Result (List Summand × List Piece) ReadCause
-summands_of ps = summands_within (length ps) (sign_of ps).0 (sign_of ps).1
+summands_of ps = summands_within (length (sign_of ps).1) (sign_of ps).0 (sign_of ps).1
 
 -- a name comes next
 abbrev pub word_next : List Piece → Bool
 word_next (Word word ∷ ps) = true
 word_next _ = false
 
+-- `0` comes next, and no name after it
+abbrev pub nought_next : List Piece → Bool
+nought_next (Number number ∷ ps) = is_nought number && not (word_next ps)
+nought_next _ = false
+
 -- a sum: `0` alone, or terms
 unfoldable pub sum_of : List Piece → Result (List Summand × List Piece) ReadCause
-sum_of (Number number ∷ ps) = if is_nought number && not (word_next ps) then Ok ([], ps) else summands_of (Number number ∷ ps)
-sum_of ps = summands_of ps
+sum_of ps = if nought_next ps then Ok ([], drop 1 ps) else summands_of ps
 
 -- var NAME KIND LOW HIGH
 unfoldable pub var_of : List Piece → Result Form ReadCause

@@ -1,12 +1,14 @@
 //! The forms of lines.
 
-ghost use Rattle.std.specs.Prelude.{◌≡◌, List, map, OnOk, ◌++◌};
+ghost use Rattle.std.specs.Prelude.{◌≡◌, map, length, drop};
 ghost use Rattle.std.specs.Option.{option_map};
 ghost use Rattle.gdp_grammar.specs.Keywords.{is_reserved as is_reserved_word};
-ghost use Rattle.gdp_grammar.specs.Forms.{ended, name_of, kind_of, numeral_of, sign_of, signed_of, low_after, low_of, high_of, rel_of, summand_of, joint_of, is_nought as is_nought_of, var_of};
+ghost use Rattle.gdp_grammar.specs.Forms.{ended, name_of, kind_of, numeral_of, sign_of, signed_of, low_after, low_of, high_of, rel_of, summand_of, summands_within, joint_of, word_next, nought_next, is_nought as is_nought_of, summands_of, sum_of, var_of, row_of, form_of};
 ghost use Rattle.gdp_cli.specs.Gives.{Gives};
 ghost use Rattle.gdp_cli.specs.Tokens.{spelled};
 ghost use Rattle.gdp_cli.specs.Lines.{signed, summand, form};
+
+use std::alloc::Global;
 
 use gdp_grammar::{ReadCause, Symbol};
 use lp_rows::{Kind, Rel};
@@ -26,31 +28,32 @@ pub struct Signed<'a> {
 pub struct Summand<'a> {
     pub is_negative: bool,
     pub size: Option<Numeral<'a>>,
-    pub name: &'a [u8],
+    pub name: &'a str,
 }
 
 /// A line, by what it says.
 #[derive(Drop)]
 pub enum Form<'a> {
-    Var(&'a [u8], Kind, Option<Signed<'a>>, Option<Signed<'a>>),
+    Var(&'a str, Kind, Option<Signed<'a>>, Option<Signed<'a>>),
     Row(Vec<Summand<'a>>, Rel, Signed<'a>),
 }
 
 /// Whether the word is no name.
-fn is_reserved(word: &[u8]) -> bool
+#[tactic(auto, unfolding(block_tree::specs::Names::reserved_words))]
+fn is_reserved(word: &str) -> bool
     ensures { result ≡ is_reserved_word word.now }
 {
-    word == b"not".as_slice()
-        || word == b"and".as_slice()
-        || word == b"or".as_slice()
-        || word == b"implies".as_slice()
-        || word == b"equivalent".as_slice()
-        || word == b"xor".as_slice()
-        || word == b"exactly".as_slice()
-        || word == b"atleast".as_slice()
-        || word == b"atmost".as_slice()
-        || word == b"inf".as_slice()
-        || word == b"end".as_slice()
+    word == "not"
+        || word == "and"
+        || word == "or"
+        || word == "implies"
+        || word == "equivalent"
+        || word == "xor"
+        || word == "exactly"
+        || word == "atleast"
+        || word == "atmost"
+        || word == "inf"
+        || word == "end"
 }
 
 /// Nothing is left.
@@ -64,7 +67,7 @@ fn end_of_line(tokens: &mut Tokens<'_>) -> Result<(), LineError>
 }
 
 /// A name.
-fn name_word<'a>(tokens: &mut Tokens<'a>) -> Result<&'a [u8], LineError>
+fn name_word<'a>(tokens: &mut Tokens<'a>) -> Result<&'a str, LineError>
     ensures { Gives (λ word. (word.now, tokens.new)) result (name_of tokens.old) }
 {
     match tokens.next() {
@@ -80,10 +83,10 @@ fn kind_word(tokens: &mut Tokens<'_>) -> Result<Kind, LineError>
     let Some(Token::Word(word)) = tokens.next() else {
         return Err(LineError::Refused(ReadCause::Form));
     };
-    if word == b"real".as_slice() {
+    if word == "real" {
         return Ok(Kind::Real);
     }
-    if word == b"int".as_slice() {
+    if word == "int" {
         return Ok(Kind::Int);
     }
     Err(LineError::Refused(ReadCause::Form))
@@ -137,7 +140,7 @@ fn low_after_sign<'a>(
     match tokens.peek() {
         Some(Token::Word(word)) if is_negative => {
             tokens.skip();
-            if word == b"inf".as_slice() {
+            if word == "inf" {
                 return Ok(None);
             }
             Err(LineError::Refused(ReadCause::Form))
@@ -165,7 +168,7 @@ fn high_bound<'a>(tokens: &mut Tokens<'a>) -> Result<Option<Signed<'a>>, LineErr
     match tokens.peek() {
         Some(Token::Word(word)) => {
             tokens.skip();
-            if word == b"inf".as_slice() {
+            if word == "inf" {
                 return Ok(None);
             }
             Err(LineError::Refused(ReadCause::Form))
@@ -236,6 +239,36 @@ fn is_nought(number: &Numeral<'_>) -> bool
     }
 }
 
+/// Terms joined by signs, the first with this sign.
+fn terms<'a>(
+    alloc: Global,
+    tokens: &mut Tokens<'a>,
+    is_first_negative: bool,
+) -> Result<Vec<Summand<'a>>, LineError>
+    ensures { Gives (λ sum. (map summand sum.items, tokens.new)) result (summands_within (length tokens.old) is_first_negative tokens.old) }
+{
+    let mut sum = Vec::new(alloc);
+    let mut is_negative = is_first_negative;
+    'terms: loop {
+        let first = term(tokens, is_negative)?;
+        sum.push(first)?;
+        match joint(tokens) {
+            None => return Ok(sum),
+            Some(sign) => {
+                tokens.skip();
+                is_negative = sign;
+            }
+        }
+    }
+}
+
+/// Whether the token after the next one is a word.
+fn is_word_second(tokens: &Tokens<'_>) -> bool
+    ensures { result ≡ word_next (drop 1 tokens.now) }
+{
+    matches!(tokens.peek_second(), Some(Token::Word(_)))
+}
+
 /// A variable's line, after its first word.
 #[tactic(auto, unfolding(gdp_grammar::specs::Forms::var_of))]
 fn var_line<'a>(tokens: &mut Tokens<'a>) -> Result<Form<'a>, LineError>
@@ -247,4 +280,63 @@ fn var_line<'a>(tokens: &mut Tokens<'a>) -> Result<Form<'a>, LineError>
     let high = high_bound(tokens)?;
     end_of_line(tokens)?;
     Ok(Form::Var(name, kind, low, high))
+}
+
+/// Terms joined by signs, the first with an optional sign.
+#[tactic(auto, unfolding(gdp_grammar::specs::Forms::summands_of))]
+fn signed_terms<'a>(alloc: Global, tokens: &mut Tokens<'a>) -> Result<Vec<Summand<'a>>, LineError>
+    ensures { Gives (λ sum. (map summand sum.items, tokens.new)) result (summands_of tokens.old) }
+{
+    let is_negative = sign(tokens);
+    terms(alloc, tokens, is_negative)
+}
+
+/// Whether `0` alone comes next.
+fn is_nought_next(tokens: &Tokens<'_>) -> bool
+    ensures { result ≡ nought_next tokens.now }
+{
+    match tokens.peek() {
+        Some(Token::Number(number)) if is_nought(&number) => !is_word_second(tokens),
+        _ => false,
+    }
+}
+
+/// A sum: `0` alone, or terms.
+#[tactic(auto, unfolding(gdp_grammar::specs::Forms::sum_of))]
+fn sum<'a>(alloc: Global, tokens: &mut Tokens<'a>) -> Result<Vec<Summand<'a>>, LineError>
+    ensures { Gives (λ sum. (map summand sum.items, tokens.new)) result (sum_of tokens.old) }
+{
+    if is_nought_next(tokens) {
+        tokens.skip();
+        return Ok(Vec::new(alloc));
+    }
+    signed_terms(alloc, tokens)
+}
+
+/// A row's line, after its first word.
+#[tactic(auto, unfolding(gdp_grammar::specs::Forms::row_of))]
+fn row_line<'a>(alloc: Global, tokens: &mut Tokens<'a>) -> Result<Form<'a>, LineError>
+    ensures { Gives form result (row_of tokens.old) }
+{
+    let sum = sum(alloc, tokens)?;
+    let rel = relation(tokens)?;
+    let right = signed_number(tokens)?;
+    end_of_line(tokens)?;
+    Ok(Form::Row(sum, rel, right))
+}
+
+/// The form of a line.
+pub fn read_form<'a>(alloc: Global, tokens: &mut Tokens<'a>) -> Result<Form<'a>, LineError>
+    ensures { Gives form result (form_of tokens.old) }
+{
+    let Some(Token::Word(word)) = tokens.next() else {
+        return Err(LineError::Refused(ReadCause::Form));
+    };
+    if word == "var" {
+        return var_line(tokens);
+    }
+    if word == "row" {
+        return row_line(alloc, tokens);
+    }
+    Err(LineError::Refused(ReadCause::Form))
 }

@@ -2,6 +2,7 @@
 
 ghost use Rattle.std.specs.Prelude.{◌≡◌, [], ◌∷◌, drop};
 ghost use Rattle.std.specs.Option.{MatchOption};
+ghost use Rattle.gdp_grammar.specs.Classes.{front, rest};
 ghost use Rattle.gdp_grammar.specs.Tokens.{numeral_of, double_of, token_of, tokens_of};
 ghost use Rattle.gdp_cli.specs.Tokens.{spelled, piece};
 
@@ -22,7 +23,7 @@ pub enum Numeral<'a> {
 /// A token of a line. `Stray` is a byte that begins none.
 #[derive(Clone, Copy)]
 pub enum Token<'a> {
-    Word(&'a [u8]),
+    Word(&'a str),
     Number(Numeral<'a>),
     Mark(Symbol),
     Stray,
@@ -57,6 +58,18 @@ fn split_double<'a>(symbol: Symbol, after: &'a [u8]) -> (Token<'a>, &'a [u8])
     }
 }
 
+/// The name at the front of the bytes, and what follows it.
+fn split_name(bytes: &[u8]) -> (&str, &[u8])
+    ensures name { result.0.now ≡ front Class.Name bytes.now }
+    ensures rest { result.1.now ≡ rest Class.Name bytes.now }
+{
+    let (name, rest) = split_front(bytes, Class::Name);
+    match str::from_utf8(name) {
+        Ok(name) => (name, rest),
+        Err(_) => unreachable!(),
+    }
+}
+
 /// The token that begins with this byte and goes on with what follows, and the rest.
 #[tactic(auto, unfolding(gdp_grammar::specs::Tokens::token_of))]
 fn split_token<'a>(bytes: &'a [u8], first: u8, after: &'a [u8]) -> (Token<'a>, &'a [u8])
@@ -64,8 +77,8 @@ fn split_token<'a>(bytes: &'a [u8], first: u8, after: &'a [u8]) -> (Token<'a>, &
     ensures { token_of first after.now ≡ (piece result.0, result.1.now) }
 {
     if belongs(Class::Start, first) {
-        let (word, rest) = split_front(bytes, Class::Name);
-        return (Token::Word(word), rest);
+        let (name, rest) = split_name(bytes);
+        return (Token::Word(name), rest);
     }
     if belongs(Class::Digit, first) {
         let (digits, rest) = split_front(bytes, Class::Digit);
@@ -133,6 +146,15 @@ impl<'a> Tokens<'a> {
             [] => None,
             [first, after @ ..] => Some(split_token(bytes, *first, after).0),
         }
+    }
+
+    /// The token after the first of those that are left.
+    pub fn peek_second(&self) -> Option<Token<'a>>
+        ensures { MatchOption result (drop 1 self.now ≡ []) (λ t. drop 1 self.now ≡ piece t ∷ drop 2 self.now) }
+    {
+        let mut others = Tokens { bytes: self.bytes };
+        others.skip();
+        others.next()
     }
 
     /// Passes over the first of the tokens that are left.
