@@ -5,3 +5,4 @@ mod fault;
 mod form;
 mod line;
 mod token;
+mod value;

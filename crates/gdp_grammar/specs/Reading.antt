@@ -75,7 +75,7 @@ with_var b line name kind low high = do
 
 -- the number of the variable with this name, if one was declared
 abbrev pub id_of : List VarValue → List ℕ → Option ℕ
-id_of vars name = position (λ v. bytes_eq name v.0) vars
+id_of vars name = position (bytes_eq name) (map (λ v. v.0) vars)
 
 -- the numbers of a sum's variables, where they were declared
 abbrev pub named : List VarValue → List Summand → List (Option ℕ)
