@@ -19,3 +19,22 @@ past_range size past = cond-false _ _ _ (grind (arith, nat_tests))
 
 pub within_range : (size : ℕ) → size ≤ 10 ^ 15 → in_range size ≡ Some size
 within_range size within = cond-true _ _ _ (grind (arith, nat_tests))
+
+-- Past the range it stays, whatever digits follow.
+pub stays_past : (size : ℕ) (digits rest : List ℕ) → decimal size rest ≡ decimal 0 digits → 10 ^ 15 < size → in_range (decimal 0 digits) ≡ None
+stays_past size digits rest same past = past_range (decimal 0 digits) (omega (arith, same, past, decimal_grows size rest))
+
+-- a whole number over 1 is in lowest terms, and is the only one that is equal to it
+pub whole_lowest : (n : ℤ) → IsReduced n (pos 1) (record { num = n; den = pos 1 })
+whole_lowest n = record {
+    divisible = λ e. cc e;
+    lowest = record { positive = omega (arith, ints); coprime = IsGcd-swap 1 (unsigned_abs n) 1 (gcd_of_one (unsigned_abs n)) };
+    same = refl
+  }
+
+pub whole_only : (n : ℤ) (f : Fraction) → IsReduced n (pos 1) f → f ≡ record { num = n; den = pos 1 }
+whole_only n f reduced = ?
+
+pub whole_fits : (n : ℤ) (bits : ℕ) → FitsSigned w128 n → (pos 1 ≡ pos 0) ⊎ ((f : Fraction) × IsReduced n (pos 1) f × (fraction_fits f ≡ false)) → ⊥
+whole_fits n bits fit (inl e) = cc e
+whole_fits n bits fit (inr f) = ?

@@ -1,6 +1,6 @@
 //! The values of numbers.
 
-ghost use Rattle.std.specs.Prelude.{◌≡◌, ◌^◌, ◌≤◌, ◌+◌, ◌-◌, ◌*◌};
+ghost use Rattle.std.specs.Prelude.{◌≡◌, ◌^◌, ◌≤◌, ◌+◌, ◌-◌, ◌*◌, pos, neg_ℤ, if◌then◌else◌};
 ghost use Rattle.std.specs.Option.{option_map};
 ghost use Rattle.gdp_grammar.specs.Numerals.{decimal};
 ghost use Rattle.gdp_grammar.specs.Reading.{in_range, signed_whole as whole_of, value_of, end_of};
@@ -40,17 +40,32 @@ fn size_of(digits: &[u8]) -> Option<u64>
     Some(size)
 }
 
-/// A whole number with its sign.
-fn signed_whole(is_negative: bool, size: u64) -> Frac
-    requires { size ≤ 10 ^ 15 }
-    ensures { result ≡ whole_of is_negative size }
+/// A number with its sign.
+fn with_sign(is_negative: bool, size: u64) -> i128
+    ensures { result ≡ (if is_negative then neg_ℤ (pos size) else pos size) }
 {
     let size = i128::from(size);
-    let number = if is_negative { -size } else { size };
+    if is_negative {
+        return -size;
+    }
+    size
+}
+
+/// A whole number as a fraction.
+fn whole(number: i128) -> Frac
+    ensures { result ≡ record { num = number; den = pos 1 } }
+{
     match Frac::new(number, 1) {
         Some(whole) => whole,
         None => unreachable!(),
     }
+}
+
+/// A whole number with its sign.
+fn signed_whole(is_negative: bool, size: u64) -> Frac
+    ensures { result ≡ whole_of is_negative size }
+{
+    whole(with_sign(is_negative, size))
 }
 
 /// The value of a number, if it is in range.

@@ -1,4 +1,0 @@
-//! The program.
-#![tactic(auto)]
-
-mod reader;
