@@ -7,7 +7,8 @@ use Rattle.lp_rows.specs.declared.kinds.Rel.{Rel}
 use Rattle.block_tree.specs.declared.errors.BuildError.{BuildError}
 use Rattle.block_tree.specs.declared.errors.BuildError.TheVariants as refusal
 use Rattle.block_tree.specs.Building.{BuildingValue, new_building, is_at_root, is_taken, var_outcome, row_outcome, finish_outcome}
-use Rattle.block_tree.specs.Values.{VarValue, ModelTree}
+use Rattle.block_tree.specs.Values.{ModelTree}
+use Rattle.block_tree.specs.Variables.{VarValue}
 use Rattle.gdp_grammar.specs.declared.cause.ReadCause.{ReadCause}
 use Rattle.gdp_grammar.specs.declared.cause.ReadCause.TheVariants as cause
 use Rattle.gdp_grammar.specs.Causes.{◌>>=◌, refuse_if}
