@@ -2,9 +2,10 @@
 use Rattle.std.proofs.Common.{◌≡◌, ℕ, ◌-◌, ◌<◌, ◌≤◌, List, [], ◌∷◌, length, get_or, take, drop, refl, ap, sym, ◌∙◌, arith}
 use Rattle.std.proofs.lemmas.List.{take_rest, nil_from_length}
 use Rattle.gdp_grammar.specs.declared.class.Class.TheVariants as class
-use Rattle.gdp_grammar.specs.Classes.{rest}
+use Rattle.gdp_grammar.specs.Classes.{front, rest}
+use Rattle.gdp_grammar.specs.Words.{words_of}
 use Rattle.gdp_grammar.specs.Tokens.{Piece, token_of, tokens_of}
-use Rattle.gdp_grammar.proofs.Pieces.{no_tokens, first_token}
+use Rattle.gdp_grammar.proofs.Pieces.{no_tokens, first_token, no_words, first_word}
 
 pub none_left : (value : List Piece) (bytes left : List ℕ) → value ≡ tokens_of bytes → left ≡ rest class.Blank bytes → length left < 1 → (value ≡ []) × (tokens_of left ≡ [])
 unfolding tokens_of
@@ -20,3 +21,11 @@ one_left value bytes (b ∷ bs) after token is cut some read =
 
 pub after_one : {X : Type 0} (xs ys : List X) (x : X) → xs ≡ x ∷ ys → xs ≡ x ∷ drop 1 xs
 after_one xs ys x e = e ∙ ap (λ l. x ∷ drop 1 l) (sym e)
+
+pub no_word_left : (line left : List ℕ) → left ≡ rest class.Blank line → length left < 1 → words_of line ≡ []
+no_word_left line left cut none = no_words line (sym cut ∙ nil_from_length left (omega (arith, none)))
+
+pub one_word_left : (line left word after : List ℕ) → left ≡ rest class.Blank line → 1 ≤ length left → word ≡ front class.Word left → after ≡ rest class.Word left → words_of line ≡ word ∷ words_of after
+one_word_left line [] word after cut some f r = absurd (omega (arith, some))
+one_word_left line (b ∷ bs) word after cut some f r =
+    first_word line b bs (sym cut) ∙ ap (λ w. w ∷ words_of (rest class.Word (b ∷ bs))) (sym f) ∙ ap (λ l. word ∷ words_of l) (sym r)

@@ -115,3 +115,12 @@ name_ascii (b ∷ bs) = elim (told (belongs class.Name b)) [
       subst (λ (xs : List ℕ). IsAscii xs) (sym is) (IsAscii-cons b (front class.Name bs) (byte_ascii b e) (name_ascii bs))
   | inr e ↦ let is : front class.Name (b ∷ bs) ≡ [] = cond-false (belongs class.Name b) _ _ e in
       subst (λ (xs : List ℕ). IsAscii xs) (sym is) IsAscii-nil ]
+
+-- a text that isn't empty has a line
+pub some_line : (text : List ℕ) → 0 < length text → (line : List ℕ) × (lines : List (List ℕ)) × (lines_of text ≡ line ∷ lines)
+some_line [] some = absurd (omega (arith, some))
+some_line (b ∷ bs) some = go (rest class.Line (b ∷ bs)) refl
+  where
+    go : (after : List ℕ) → rest class.Line (b ∷ bs) ≡ after → (line : List ℕ) × (lines : List (List ℕ)) × (lines_of (b ∷ bs) ≡ line ∷ lines)
+    go [] e = (front class.Line (b ∷ bs), [], last_line b bs e)
+    go (n ∷ after) e = (without_return (front class.Line (b ∷ bs)), lines_of after, first_line (b ∷ bs) n after e)

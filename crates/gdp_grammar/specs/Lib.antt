@@ -4,6 +4,7 @@ pub mod Forms
 pub mod Keywords
 pub mod Lines
 pub mod Numerals
+pub mod Points
 pub mod Reading
 pub mod Spelling
 pub mod Tokens

@@ -15,6 +15,7 @@ use Rattle.gdp_grammar.specs.Causes.{◌>>=◌, refuse_if}
 use Rattle.gdp_grammar.specs.Forms.{Form, Var, Row, Signed, Summand, form_of}
 use Rattle.gdp_grammar.specs.Lines.{without_comment}
 use Rattle.gdp_grammar.specs.Numerals.{Numeral, Whole, decimal}
+use Rattle.gdp_grammar.specs.Points.{are_words}
 use Rattle.gdp_grammar.specs.Tokens.{Piece, tokens_of}
 use Rattle.gdp_grammar.specs.Words.{words_of}
 
@@ -145,8 +146,7 @@ nothing_taken = record { headed = false; building = new_building }
 
 -- the words are the header's
 abbrev pub is_header : List (List ℕ) → Bool
-is_header (name ∷ version ∷ []) = bytes_eq name (codes "gdp") && bytes_eq version (codes "1")
-is_header _ = false
+is_header words = are_words words (codes "gdp") (codes "1")
 
 -- the first line that isn't blank is the header
 abbrev pub with_header : Taken → List (List ℕ) → Result Taken ReadCause
