@@ -1,6 +1,5 @@
 -- What a line adds to what the lines before it gave, or the cause against it.
 use Rattle.std.specs.Prelude.{ℕ, zero, ◌^◌, ℤ, pos, neg_ℤ, Bool, true, false, not, List, [], ◌∷◌, map, Option, None, Some, is_some, Result, Ok, Err, if◌then◌else◌, nat_le, ◌==◌, ◌||◌, ◌&&◌, codes, position, bytes_eq}
-use Rattle.std.specs.List.{list_any, zip}
 use Rattle.fractions.specs.Fraction.{Fraction}
 use Rattle.lp_rows.specs.declared.kinds.Kind.{Kind}
 use Rattle.lp_rows.specs.declared.kinds.Rel.{Rel}
@@ -95,13 +94,13 @@ has_twice [] = false
 has_twice (None ∷ ids) = has_twice ids
 has_twice (Some id ∷ ids) = stands_in id ids || has_twice ids
 
--- the numbers, where each name is known
-abbrev pub known : List (Option ℕ) → Result (List ℕ) ReadCause
-known [] = Ok []
-known (None ∷ ids) = Err cause.NameUnknown
-known (Some id ∷ ids) = do
-  others ← known ids
-  Ok (id ∷ others)
+-- the terms of a sum with the numbers of their variables, where each name is known
+abbrev pub known_terms : List VarValue → List Summand → Result (List (ℕ × Summand)) ReadCause
+known_terms vars [] = Ok []
+known_terms vars (s ∷ sum) = do
+  id ← or_cause cause.NameUnknown (id_of vars s.name)
+  others ← known_terms vars sum
+  Ok ((id, s) ∷ others)
 
 -- a coefficient with its sign: 1 where no number is written
 abbrev pub coefficient : Bool → Option Numeral → Option Fraction
@@ -112,23 +111,23 @@ coefficient is_negative (Some size) = value_of is_negative size
 abbrev pub coefficient_of : Summand → Option Fraction
 coefficient_of s = coefficient s.is_negative s.size
 
--- the coefficients of a sum
-abbrev pub coefficients_of : List Summand → Result (List Fraction) ReadCause
-coefficients_of [] = Ok []
-coefficients_of (s ∷ sum) = do
-  first ← or_cause cause.Number (coefficient_of s)
-  others ← coefficients_of sum
-  Ok (first ∷ others)
+-- terms with the values of their coefficients, where each is in range
+abbrev pub valued_terms : List (ℕ × Summand) → Result (List (ℕ × Fraction)) ReadCause
+valued_terms [] = Ok []
+valued_terms (t ∷ ts) = do
+  coefficient ← or_cause cause.Number (coefficient_of t.1)
+  others ← valued_terms ts
+  Ok ((t.0, coefficient) ∷ others)
 
 -- a row is appended
 unfoldable pub with_row : BuildingValue → ℕ → List Summand → Rel → Signed → Result BuildingValue ReadCause
 with_row b line sum rel right = do
   place ← refuse_if (is_some b.opened) cause.Form
   twice ← refuse_if (has_twice (named b.vars sum)) cause.NameTwice
-  ids ← known (named b.vars sum)
-  coefficients ← coefficients_of sum
+  known ← known_terms b.vars sum
+  terms ← valued_terms known
   right ← or_cause cause.Number (value_of right.is_negative right.size)
-  after_call (row_outcome (zip ids coefficients) rel right line b)
+  after_call (row_outcome terms rel right line b)
 
 -- what a line of this form adds
 abbrev pub with_form : BuildingValue → ℕ → Form → Result BuildingValue ReadCause
