@@ -1,3 +1,4 @@
+pub mod Builders
 pub mod Building
 pub mod Variables
 pub mod Names

@@ -11,6 +11,8 @@ pub mod bounds;
 pub mod declarations;
 pub mod errors;
 pub mod names;
+pub mod parts;
+pub mod scaling;
 pub mod tree;
 
 pub use bounds::Bound;
