@@ -5,6 +5,8 @@ pub mod Names
 pub mod Nesting
 pub mod Satisfied
 pub mod Scaling
+pub mod Sound
+pub mod Standing
 pub mod Tests
 pub mod Tree
 pub mod Values

@@ -1,20 +1,22 @@
 //! The parts of a builder, and its calls on them.
 
-ghost use Rattle.std.specs.Prelude.{◌≡◌, ◌<◌, ◌^◌, true, false, length, Option, IfOk, MatchOption, MatchResult};
+ghost use Rattle.std.specs.Prelude.{◌≡◌, true, None};
 ghost use Rattle.fractions.specs.Memory.{Acts};
-ghost use Rattle.fractions.specs.Width.{fits};
-ghost use Rattle.lp_rows.specs.Rows.{ascends_from, are_storable};
-ghost use Rattle.block_tree.specs.Scaling.{are_whole, has_id_twice, insert_term, sorted_terms, scaled, scaled_terms};
+ghost use Rattle.block_tree.specs.Scaling.{are_whole};
 ghost use Rattle.block_tree.specs.Building.{
-    new_building, var_outcome, row_outcome, rows_so_far, is_bound, has_small_parts, are_ids_below, refusal_of_finish,
+    new_building, var_outcome, row_outcome, rows_so_far, refusal_of_finish as finish_refusal, built_model, closed_block, goal_of,
 };
-ghost use Rattle.block_tree.specs.Builders.{building_of};
+ghost use Rattle.block_tree.specs.Builders.{building_of, open_block_of, goal_value_of, given_goal};
+ghost use Rattle.block_tree.specs.Sound.{IsWhole};
+ghost use Rattle.block_tree.specs.Values.{model_tree};
+ghost use Rattle.block_tree.specs.View.{block_of};
 
 use crate::bounds::Bound;
 use crate::declarations::{Booleans, Variables};
 use crate::errors::BuildError;
+use crate::models::Model;
 use crate::names::is_name;
-use crate::tree::{Disjunct, Disjunction, Mode};
+use crate::tree::{Block, Disjunct, Disjunction, Mode};
 use crate::scaling::{is_bound as is_sound_bound, stored_row};
 use fractions::Frac;
 use lp_rows::{Kind, Rel, Row, Sense, Terms};
@@ -155,5 +157,74 @@ impl Parts {
         self.inner.rows.push_reserved((row, mark));
         self.row_total += 1;
         Ok(())
+    }
+
+    /// Why no model can be made now.
+    pub fn refusal_of_finish(&self) -> Option<BuildError>
+        ensures { result ≡ finish_refusal (building_of self.now) }
+    {
+        if self.opened.is_some() || !self.outer.is_empty() {
+            return Some(BuildError::Unclosed);
+        }
+        if self.vars.len() == 0 {
+            return Some(BuildError::Missing);
+        }
+        None
+    }
+
+    /// The model of all that was given.
+    pub fn into_model(self, alloc: Global) -> Model
+        requires whole { IsWhole (building_of self) }
+        requires ready { finish_refusal (building_of self) ≡ None }
+        ensures { model_tree result ≡ built_model (building_of self) }
+    {
+        let Parts {
+            vars,
+            booleans,
+            goal,
+            inner,
+            opened: _,
+            outer: _,
+            row_total: _,
+        } = self;
+        let root = inner.into_block();
+        let goal = goal_or_none(alloc, goal);
+        Model {
+            vars,
+            booleans,
+            goal,
+            root,
+        }
+    }
+}
+
+impl Level {
+    // The block of what it holds.
+    fn into_block(self) -> Block
+        ensures { block_of result ≡ closed_block (open_block_of self) }
+    {
+        let Level {
+            indicator: _,
+            mark: _,
+            rows,
+            disjunctions,
+        } = self;
+        Block { rows, disjunctions }
+    }
+}
+
+// The goal that was given, or the one of a model without.
+fn goal_or_none(alloc: Global, goal: Option<Goal>) -> Goal
+    ensures { goal_value_of result ≡ goal_of (given_goal goal) }
+{
+    match goal {
+        Some(goal) => goal,
+        None => Goal {
+            sense: Sense::Min,
+            terms: Terms::new(alloc),
+            constant: 0,
+            scale: 1,
+            mark: 0,
+        },
     }
 }
