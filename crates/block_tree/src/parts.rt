@@ -1,0 +1,230 @@
+//! The parts of a builder, and its calls on them.
+
+ghost use Rattle.std.specs.Prelude.{◌≡◌, true, None};
+ghost use Rattle.fractions.specs.Memory.{Acts};
+ghost use Rattle.block_tree.specs.Scaling.{are_whole};
+ghost use Rattle.block_tree.specs.Building.{
+    new_building, var_outcome, row_outcome, rows_so_far, refusal_of_finish as finish_refusal, built_model, closed_block, goal_of,
+};
+ghost use Rattle.block_tree.specs.Builders.{building_of, open_block_of, goal_value_of, given_goal};
+ghost use Rattle.block_tree.specs.Sound.{IsWhole};
+ghost use Rattle.block_tree.specs.Values.{model_tree};
+ghost use Rattle.block_tree.specs.View.{block_of};
+
+use crate::bounds::Bound;
+use crate::declarations::{Booleans, Variables};
+use crate::errors::BuildError;
+use crate::models::Model;
+use crate::names::is_name;
+use crate::tree::{Block, Disjunct, Disjunction, Mode};
+use crate::scaling::{is_bound as is_sound_bound, stored_row};
+use fractions::Frac;
+use lp_rows::{Kind, Rel, Row, Sense, Terms};
+use std::alloc::Global;
+
+/// The most variables of a model.
+pub const MOST_VARIABLES: usize = 500;
+
+/// The most rows of all blocks of a model.
+pub const MOST_ROWS: u32 = 1_000;
+
+/// A block that is open.
+#[derive(Drop)]
+pub(crate) struct Level {
+    pub(crate) indicator: u32,
+    pub(crate) mark: u32,
+    pub(crate) rows: Vec<(Row, u32)>,
+    pub(crate) disjunctions: Vec<Disjunction>,
+}
+
+/// A disjunction that is open.
+#[derive(Drop)]
+pub(crate) struct Opened {
+    pub(crate) mode: Mode,
+    pub(crate) mark: u32,
+    pub(crate) disjuncts: Vec<Disjunct>,
+}
+
+/// A goal.
+#[derive(Drop)]
+pub(crate) struct Goal {
+    pub(crate) sense: Sense,
+    pub(crate) terms: Terms,
+    pub(crate) constant: i128,
+    pub(crate) scale: i128,
+    pub(crate) mark: u32,
+}
+
+/// What a builder holds: the innermost open block, the disjunction that is open in it, and in `outer` the blocks
+/// around it, each with the disjunction that is open in it, the innermost last.
+#[derive(Drop)]
+pub struct Parts {
+    pub(crate) vars: Variables,
+    pub(crate) booleans: Booleans,
+    pub(crate) goal: Option<Goal>,
+    pub(crate) inner: Level,
+    pub(crate) opened: Option<Opened>,
+    pub(crate) outer: Vec<(Level, Opened)>,
+    pub(crate) row_total: u32,
+}
+
+impl Parts {
+    /// Nothing declared, and an empty root.
+    pub fn new(alloc: Global) -> Parts
+        ensures value { building_of result ≡ new_building }
+        ensures counted { result.row_total ≡ 0 }
+    {
+        Parts {
+            vars: Variables::new(alloc),
+            booleans: Booleans::new(alloc),
+            goal: None,
+            inner: Level {
+                indicator: 0,
+                mark: 0,
+                rows: Vec::new(alloc),
+                disjunctions: Vec::new(alloc),
+            },
+            opened: None,
+            outer: Vec::new(alloc),
+            row_total: 0,
+        }
+    }
+
+    /// Declares a variable.
+    pub fn var(
+        &mut self,
+        alloc: Global,
+        name: &str,
+        kind: Kind,
+        bound: Bound,
+        mark: u32,
+    ) -> Result<u32, BuildError>
+        ensures acts {
+            Acts BuildError.Memory (building_of self.old) (var_outcome name.now kind bound mark (building_of self.old)) result
+            (building_of self.new)
+        }
+        ensures counted { self.new.row_total ≡ self.old.row_total }
+    {
+        if self.opened.is_some() || !self.outer.is_empty() {
+            return Err(BuildError::Place);
+        }
+        if self.vars.contains(name) || self.booleans.contains(name) {
+            return Err(BuildError::NameTwice);
+        }
+        if !is_sound_bound(&bound) {
+            return Err(BuildError::Number);
+        }
+        let number = self.vars.len();
+        if number >= MOST_VARIABLES || !is_name(name) {
+            return Err(BuildError::Limit);
+        }
+        if self.vars.push(alloc, name, kind, bound, mark).is_err() {
+            return Err(BuildError::Memory);
+        }
+        Ok(number as u32)
+    }
+
+    /// Adds a row to the innermost open block.
+    pub fn row(
+        &mut self,
+        alloc: Global,
+        terms: &[(u32, Frac)],
+        rel: Rel,
+        right: Frac,
+        mark: u32,
+    ) -> Result<(), BuildError>
+        requires whole { are_whole terms.now right ≡ true }
+        requires counted { self.old.row_total ≡ rows_so_far (building_of self.old) }
+        ensures acts {
+            Acts BuildError.Memory (building_of self.old) (row_outcome terms.now rel right mark (building_of self.old)) result
+            (building_of self.new)
+        }
+        ensures counted { self.new.row_total ≡ rows_so_far (building_of self.new) }
+    {
+        if self.opened.is_some() {
+            return Err(BuildError::Place);
+        }
+        let row = match stored_row(alloc, terms, rel, right, self.vars.len()) {
+            Ok(row) => row,
+            Err(error) => return Err(error),
+        };
+        if self.row_total >= MOST_ROWS {
+            return Err(BuildError::Limit);
+        }
+        if self.inner.rows.reserve(1).is_err() {
+            return Err(BuildError::Memory);
+        }
+        self.inner.rows.push_reserved((row, mark));
+        self.row_total += 1;
+        Ok(())
+    }
+
+    /// Why no model can be made now.
+    pub fn refusal_of_finish(&self) -> Option<BuildError>
+        ensures { result ≡ finish_refusal (building_of self.now) }
+    {
+        if self.opened.is_some() || !self.outer.is_empty() {
+            return Some(BuildError::Unclosed);
+        }
+        if self.vars.len() == 0 {
+            return Some(BuildError::Missing);
+        }
+        None
+    }
+
+    /// The model of all that was given.
+    pub fn into_model(self, alloc: Global) -> Model
+        requires whole { IsWhole (building_of self) }
+        requires ready { finish_refusal (building_of self) ≡ None }
+        ensures { model_tree result ≡ built_model (building_of self) }
+    {
+        let Parts {
+            vars,
+            booleans,
+            goal,
+            inner,
+            opened: _,
+            outer: _,
+            row_total: _,
+        } = self;
+        let root = inner.into_block();
+        let goal = goal_or_none(alloc, goal);
+        Model {
+            vars,
+            booleans,
+            goal,
+            root,
+        }
+    }
+}
+
+impl Level {
+    // The block of what it holds.
+    fn into_block(self) -> Block
+        ensures { block_of result ≡ closed_block (open_block_of self) }
+    {
+        let Level {
+            indicator: _,
+            mark: _,
+            rows,
+            disjunctions,
+        } = self;
+        Block { rows, disjunctions }
+    }
+}
+
+// The goal that was given, or the one of a model without.
+fn goal_or_none(alloc: Global, goal: Option<Goal>) -> Goal
+    ensures { goal_value_of result ≡ goal_of (given_goal goal) }
+{
+    match goal {
+        Some(goal) => goal,
+        None => Goal {
+            sense: Sense::Min,
+            terms: Terms::new(alloc),
+            constant: 0,
+            scale: 1,
+            mark: 0,
+        },
+    }
+}
