@@ -23,7 +23,7 @@ use std::alloc::Global;
 /// that holds, in the order of [`BuildError`], and then changes nothing.
 #[derive(Drop)]
 pub struct ModelBuilder {
-    parts: Parts,
+    pub(crate) parts: Parts,
     ghost whole: { IsWhole (building_of parts) },
     ghost counted: { parts.row_total ≡ rows_so_far (building_of parts) },
 }

@@ -14,6 +14,7 @@ pub mod errors;
 pub mod models;
 pub mod names;
 pub mod parts;
+mod queries;
 pub mod scaling;
 pub mod tree;
 
