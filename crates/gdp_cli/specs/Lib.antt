@@ -1,4 +1,5 @@
 pub mod Answers
+pub mod Building
 pub mod Command
 pub mod Gives
 pub mod Lines
@@ -8,6 +9,7 @@ pub mod StandIn
 pub mod Statuses
 pub mod Streams
 pub mod Table
+pub mod Taking
 pub mod Test
 pub mod Tokens
 pub mod Words

@@ -1,5 +1,5 @@
 -- What the reader's lines say.
-use Rattle.std.specs.Prelude.{List, map, Option}
+use Rattle.std.specs.Prelude.{ℕ, List, map, Option}
 use Rattle.std.specs.Option.{option_map}
 use Rattle.gdp_grammar.specs.Forms as text
 use Rattle.gdp_cli.specs.declared.reader.form.Signed.{Signed}
@@ -15,6 +15,10 @@ signed s = record { is_negative = s.is_negative; size = spelled s.size }
 -- the term of a sum
 abbrev pub summand : Summand → text.Summand
 summand s = record { is_negative = s.is_negative; size = option_map spelled s.size; name = s.name.now }
+
+-- a term with the number of its variable
+abbrev pub named_summand : ℕ × Summand → ℕ × text.Summand
+named_summand t = (t.0, summand t.1)
 
 -- the line
 abbrev pub form : Form → text.Form

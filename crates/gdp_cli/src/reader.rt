@@ -1,10 +1,12 @@
 //! Reads model and point texts.
 
+mod building;
 mod class;
 mod fault;
 mod form;
 mod integer;
 mod line;
+mod model;
 mod point;
 mod token;
 mod value;

@@ -2,3 +2,4 @@ pub mod Cutting
 pub mod Pieces
 pub mod Sums
 pub mod Twice
+pub mod Followed

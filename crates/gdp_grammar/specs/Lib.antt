@@ -1,5 +1,6 @@
 pub mod Causes
 pub mod Classes
+pub mod Following
 pub mod Forms
 pub mod Keywords
 pub mod Lines

@@ -13,7 +13,7 @@ ghost use Rattle.gdp_grammar.specs.Reading.{
   with_row,
   with_form,
 };
-ghost use Rattle.gdp_cli.specs.Building.{line_result};
+ghost use Rattle.gdp_cli.specs.Building.{line_error};
 ghost use Rattle.gdp_cli.specs.Gives.{Gives};
 ghost use Rattle.gdp_cli.specs.Lines.{signed, summand, named_summand, form};
 ghost use Rattle.gdp_cli.specs.Tokens.{spelled};
@@ -28,10 +28,10 @@ use lp_rows::{Kind, Rel};
 use super::fault::LineError;
 use super::form::{Form, Signed, Summand};
 use super::token::Numeral;
-use super::value::{end, value, whole};
+use super::value::{end, signed_whole, value};
 
 /// The cause of a refusal of the builder.
-fn refused(refusal: BuildError) -> LineError
+pub fn refused(refusal: BuildError) -> LineError
     ensures { result ≡ line_error refusal }
 {
     match refusal {
@@ -80,7 +80,8 @@ fn has_twice(alloc: Global, builder: &ModelBuilder, sum: &[Summand<'_>]) -> Resu
 {
     let mut seen = vec![in alloc; false; builder.var_count()]?;
     'terms: for term in sum {
-        if let Some(id) = builder.find_var(term.name) {
+        if let Some(id) = builder.var_id(term.name) {
+            let id = id as usize;
             if seen[id] {
                 return Ok(true);
             }

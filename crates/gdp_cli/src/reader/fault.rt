@@ -2,6 +2,8 @@
 
 use std::alloc::{AllocError, AllocFailed};
 
+use fractions::Memory;
+
 use gdp_grammar::ReadCause;
 
 /// Why a line isn't read: it is refused, or memory was wanted.
@@ -27,6 +29,16 @@ impl<T: Drop> From<AllocFailed<T>> for LineError {
     ghost from_gives = { λ _ e. e ≡ Memory };
 
     fn from(_refused: AllocFailed<T>) -> LineError {
+        LineError::Memory
+    }
+}
+
+impl From<Memory> for LineError {
+    ghost use Rattle.std.specs.Prelude.{◌≡◌};
+    ghost use Rattle.gdp_cli.specs.declared.reader.fault.LineError.TheVariants as error;
+    ghost from_gives = { λ _ e. e ≡ error.Memory };
+
+    fn from(_memory: Memory) -> LineError {
         LineError::Memory
     }
 }

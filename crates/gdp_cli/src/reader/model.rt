@@ -1,21 +1,20 @@
 //! Reads model texts.
 
-ghost use Rattle.std.specs.Prelude.{◌≡◌, ℕ, ◌+◌, ◌^◌, ◌-◌, ◌<◌, ◌≤◌, length, IfOk, IfErr, Ok};
-ghost use Rattle.block_tree.specs.Standing.{stands_for};
-ghost use Rattle.block_tree.specs.Values.{model_tree, ModelTree};
+ghost use Rattle.std.specs.Prelude.{◌≡◌, ◌^◌, ◌-◌, ◌<◌, length};
+ghost use Rattle.gdp_grammar.specs.Following.{follow};
 ghost use Rattle.gdp_grammar.specs.Lines.{lines_of};
-ghost use Rattle.gdp_grammar.specs.Reading.{nothing_taken, with_line, model_after};
+ghost use Rattle.gdp_grammar.specs.Reading.{nothing_taken, with_header, with_tokens, with_line};
+ghost use Rattle.gdp_grammar.specs.Tokens.{tokens_of};
 ghost use Rattle.gdp_grammar.specs.Words.{words_of};
-ghost use Rattle.gdp_grammar.specs.Spelling.{Spells, IsFirstBad, reads};
 ghost use Rattle.gdp_cli.specs.Gives.{Gives};
-ghost use Rattle.gdp_cli.specs.Taking.{taken_of, header_of, IsTold, IsRefusedAt};
+ghost use Rattle.gdp_cli.specs.Taking.{taken_of, GivesText};
 
 use std::alloc::Global;
 
-use block_tree::{Model, ModelBuilder};
+use block_tree::ModelBuilder;
 use gdp_grammar::ReadCause;
 
-use super::building::{add, refused};
+use super::building::add;
 use super::fault::LineError;
 use super::form::read_form;
 use super::line::{first_line, without_comment};
@@ -61,10 +60,11 @@ impl Taking {
         Ok(())
     }
 
-    /// A line after the header.
-    fn take_tokens(&mut self, alloc: Global, line: u32, mut tokens: Tokens<'_>) -> Result<(), LineError>
-        ensures { Gives (λ _. taken_of self.new) result (with_tokens (taken_of self.old) line tokens) }
+    /// A line after the header adds what its form says, and a blank one nothing.
+    fn take_form(&mut self, alloc: Global, line: u32, content: &[u8]) -> Result<(), LineError>
+        ensures { Gives (λ _. taken_of self.new) result (with_tokens (taken_of self.old) line (tokens_of content.now)) }
     {
+        let mut tokens = Tokens::new(content);
         if tokens.peek().is_none() {
             return Ok(());
         }
@@ -79,8 +79,29 @@ impl Taking {
     {
         let content = without_comment(bytes);
         if self.is_headed {
-            return self.take_tokens(alloc, line, Tokens::new(content));
+            return self.take_form(alloc, line, content);
         }
         self.take_header(content)
     }
+}
+
+/// What the lines of a text give.
+fn take_lines(alloc: Global, text: &[u8]) -> Result<Taking, TextError>
+    requires { length text.now < 2 ^ 32 - 1 }
+    ensures { GivesText taken_of result (follow 1 nothing_taken (lines_of text.now)) }
+{
+    let mut taking = Taking::new(alloc);
+    let mut rest = text;
+    let mut line = 1u32;
+    'lines: while !rest.is_empty() {
+        let (first, after) = first_line(rest);
+        match taking.take(alloc, line, first) {
+            Ok(()) => {}
+            Err(LineError::Refused(cause)) => return Err(TextError::At { line, cause }),
+            Err(LineError::Memory) => return Err(TextError::Memory),
+        }
+        rest = after;
+        line += 1;
+    }
+    Ok(taking)
 }

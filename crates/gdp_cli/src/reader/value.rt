@@ -62,7 +62,7 @@ fn whole(number: i128) -> Frac
 }
 
 /// A whole number with its sign.
-fn signed_whole(is_negative: bool, size: u64) -> Frac
+pub fn signed_whole(is_negative: bool, size: u64) -> Frac
     ensures { result ≡ whole_of is_negative size }
 {
     whole(with_sign(is_negative, size))
