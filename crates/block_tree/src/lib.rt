@@ -14,6 +14,7 @@ pub mod errors;
 pub mod models;
 pub mod names;
 pub mod parts;
+pub mod satisfying;
 pub mod scaling;
 pub mod tree;
 
@@ -23,4 +24,5 @@ pub use declarations::{Booleans, Variables};
 pub use errors::{BuildError, SumWide, Verdict};
 pub use models::Model;
 pub use names::{Names, begins_name, continues_name, is_name};
+pub use satisfying::satisfies;
 pub use tree::{Block, Disjunct, Disjunction, Mode};
