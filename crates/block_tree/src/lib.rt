@@ -14,7 +14,9 @@ pub mod errors;
 pub mod models;
 pub mod names;
 pub mod parts;
+pub mod points;
 mod queries;
+pub mod satisfying;
 pub mod scaling;
 pub mod tree;
 
@@ -24,4 +26,6 @@ pub use declarations::{Booleans, Variables};
 pub use errors::{BuildError, SumWide, Verdict};
 pub use models::Model;
 pub use names::{Names, begins_name, continues_name, is_name};
+pub use points::ModelPoint;
+pub use satisfying::satisfies;
 pub use tree::{Block, Disjunct, Disjunction, Mode};

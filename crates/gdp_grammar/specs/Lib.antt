@@ -5,6 +5,7 @@ pub mod Forms
 pub mod Keywords
 pub mod Lines
 pub mod Numerals
+pub mod Plain
 pub mod Points
 pub mod Reading
 pub mod Spelling

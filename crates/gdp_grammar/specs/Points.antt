@@ -1,7 +1,6 @@
 -- When a text spells a point of a model.
 use Rattle.std.specs.Prelude.{◌≡◌, ℕ, ℤ, pos, neg_ℤ, Bool, true, false, ◌&&◌, ◌==◌, nat_lt, List, [], ◌∷◌, length, map, Option, None, Some, if◌then◌else◌, codes, bytes_eq}
 use Rattle.std.specs.List.{list_all}
-use Rattle.int_linear.specs.Sums.{at}
 use Rattle.lp_rows.specs.Points.{PointValue}
 use Rattle.fractions.specs.Width.{fits}
 use Rattle.block_tree.specs.Values.{ModelTree}
@@ -63,7 +62,8 @@ point_numbers names (header ∷ over ∷ lines) =
     then numbers_in names lines else None
 point_numbers names _ = None
 
--- The text spells the point of the model: it gives each variable its number over 1. (A model that is read today has
--- no Booleans, so the point has no truth values.)
-abbrev pub SpellsPoint : ModelTree → List ℕ → PointValue → Type 0
-SpellsPoint m text p = (p.over ≡ pos 1) × (point_numbers (map (λ v. v.0) m.vars) (lines_of text) ≡ Some p.nums)
+-- The text spells the point of the model: it gives each variable its number over 1, and no Boolean is true.
+pub record SpellsPoint (m : ModelTree) (text : List ℕ) (point : PointValue) (truths : List Bool) : Type 0 where
+  pub over : point.over ≡ pos 1
+  pub numbers : point_numbers (map (λ v. v.0) m.vars) (lines_of text) ≡ Some point.nums
+  pub no_truth : truths ≡ map (λ b. false) m.booleans

@@ -1,9 +1,10 @@
 //! Reads model texts.
 
-ghost use Rattle.std.specs.Prelude.{◌≡◌, ◌^◌, ◌-◌, ◌<◌, length};
-ghost use Rattle.gdp_grammar.specs.Following.{follow};
+ghost use Rattle.std.specs.Prelude.{◌≡◌, ◌^◌, ◌-◌, ◌<◌, length, IfOk};
+ghost use Rattle.block_tree.specs.Values.{model_tree};
+ghost use Rattle.gdp_grammar.specs.Following.{at_line, follow, text_gives};
 ghost use Rattle.gdp_grammar.specs.Lines.{lines_of};
-ghost use Rattle.gdp_grammar.specs.Reading.{nothing_taken, with_header, with_tokens, with_line};
+ghost use Rattle.gdp_grammar.specs.Reading.{nothing_taken, with_header, with_tokens, with_line, model_after};
 ghost use Rattle.gdp_grammar.specs.Tokens.{tokens_of};
 ghost use Rattle.gdp_grammar.specs.Words.{words_of};
 ghost use Rattle.gdp_cli.specs.Gives.{Gives};
@@ -11,10 +12,10 @@ ghost use Rattle.gdp_cli.specs.Taking.{taken_of, GivesText};
 
 use std::alloc::Global;
 
-use block_tree::ModelBuilder;
+use block_tree::{Model, ModelBuilder};
 use gdp_grammar::ReadCause;
 
-use super::building::add;
+use super::building::{add, refused};
 use super::fault::LineError;
 use super::form::read_form;
 use super::line::{first_line, without_comment};
@@ -85,23 +86,56 @@ impl Taking {
     }
 }
 
-/// What the lines of a text give.
-fn take_lines(alloc: Global, text: &[u8]) -> Result<Taking, TextError>
+/// What the lines of a text give, and how many there are.
+fn take_lines(alloc: Global, text: &[u8]) -> Result<(Taking, u32), TextError>
     requires { length text.now < 2 ^ 32 - 1 }
-    ensures { GivesText taken_of result (follow 1 nothing_taken (lines_of text.now)) }
+    ensures taken { GivesText (λ x. taken_of x.0) result (follow 1 nothing_taken (lines_of text.now)) }
+    ensures counted { IfOk result (λ x. x.1 ≡ length (lines_of text.now)) }
 {
     let mut taking = Taking::new(alloc);
     let mut rest = text;
-    let mut line = 1u32;
+    let mut lines = 0u32;
     'lines: while !rest.is_empty() {
         let (first, after) = first_line(rest);
-        match taking.take(alloc, line, first) {
+        lines += 1;
+        match taking.take(alloc, lines, first) {
             Ok(()) => {}
-            Err(LineError::Refused(cause)) => return Err(TextError::At { line, cause }),
+            Err(LineError::Refused(cause)) => return Err(TextError::At { line: lines, cause }),
             Err(LineError::Memory) => return Err(TextError::Memory),
         }
         rest = after;
-        line += 1;
     }
-    Ok(taking)
+    Ok((taking, lines))
+}
+
+/// The model that the lines gave; `line` is the number after the last one's.
+#[tactic(auto, unfolding(gdp_grammar::specs::Reading::model_after))]
+fn finish(alloc: Global, taking: Taking, line: u32) -> Result<Model, TextError>
+    ensures { GivesText model_tree result (at_line line (model_after (taken_of taking))) }
+{
+    if !taking.is_headed {
+        return Err(TextError::At {
+            line,
+            cause: ReadCause::Header,
+        });
+    }
+    let Taking { builder, .. } = taking;
+    match builder.finish(alloc) {
+        Ok(model) => Ok(model),
+        Err((_, refusal)) => match refused(refusal) {
+            LineError::Refused(cause) => Err(TextError::At { line, cause }),
+            LineError::Memory => Err(TextError::Memory),
+        },
+    }
+}
+
+/// The model that a text spells, or its first bad line.
+pub fn read_text(alloc: Global, text: &[u8]) -> Result<Model, TextError>
+    requires { length text.now < 2 ^ 32 - 1 }
+    ensures { GivesText model_tree result (text_gives text.now) }
+{
+    match take_lines(alloc, text) {
+        Ok((taking, lines)) => finish(alloc, taking, lines + 1),
+        Err(error) => Err(error),
+    }
 }

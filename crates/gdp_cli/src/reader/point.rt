@@ -70,3 +70,26 @@ fn read_values(
     }
     Err(ReadError::NotBuilt)
 }
+
+/// The numbers that a point text gives these variables.
+pub fn read_numbers(
+    alloc: Global,
+    vars: &[(Name, Kind, Bound, u32)],
+    text: &[u8],
+) -> Result<Vec<i128>, ReadError>
+    ensures read { IfOk result (λ numbers. point_numbers (map (λ v. v.0) vars.now) (lines_of text.now) ≡ Some numbers.items) }
+    ensures refused { IsErrOf result ReadError.NotBuilt → point_numbers (map (λ v. v.0) vars.now) (lines_of text.now) ≡ None }
+{
+    if text.is_empty() {
+        return Err(ReadError::NotBuilt);
+    }
+    let (header, text) = first_line(text);
+    if text.is_empty() {
+        return Err(ReadError::NotBuilt);
+    }
+    let (over, text) = first_line(text);
+    if !are_words(header, b"gdp-point", b"1") || !are_words(over, b"over", b"1") {
+        return Err(ReadError::NotBuilt);
+    }
+    read_values(alloc, vars, text)
+}
