@@ -1,6 +1,6 @@
 //! Reads model texts.
 
-ghost use Rattle.std.specs.Prelude.{◌≡◌, ◌^◌, ◌-◌, ◌<◌, length, IfOk};
+ghost use Rattle.std.specs.Prelude.{◌≡◌, ◌^◌, ◌-◌, ◌<◌, ◌≤◌, length, IfOk};
 ghost use Rattle.block_tree.specs.Values.{model_tree};
 ghost use Rattle.gdp_grammar.specs.Following.{at_line, follow, text_gives};
 ghost use Rattle.gdp_grammar.specs.Lines.{lines_of};
@@ -91,6 +91,7 @@ fn take_lines(alloc: Global, text: &[u8]) -> Result<(Taking, u32), TextError>
     requires { length text.now < 2 ^ 32 - 1 }
     ensures taken { GivesText (λ x. taken_of x.0) result (follow 1 nothing_taken (lines_of text.now)) }
     ensures counted { IfOk result (λ x. x.1 ≡ length (lines_of text.now)) }
+    ensures few { IfOk result (λ x. x.1 ≤ length text.now) }
 {
     let mut taking = Taking::new(alloc);
     let mut rest = text;
