@@ -1,5 +1,6 @@
-pub mod Tests
-pub mod Places
-pub mod Terms
+pub mod Both
+pub mod Limits
 pub mod Parts
+pub mod Places
 pub mod Points
+pub mod Terms

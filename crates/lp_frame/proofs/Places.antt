@@ -1,5 +1,6 @@
 -- Where split columns begin.
-use Rattle.std.proofs.Common.{◌≡◌, ◌<◌, ◌≤◌, ◌+◌, ◌-◌, ◌*◌, ℕ, zero, suc, List, [], ◌∷◌, length, get_or, arith, refl, subst}
+use Rattle.std.proofs.Common.{◌≡◌, ◌<◌, ◌≤◌, ◌+◌, ◌-◌, ◌*◌, ℕ, zero, suc, List, [], ◌∷◌, length, get_or, arith, refl, ap, subst}
+use Rattle.lp_rows.specs.declared.kinds.Kind.TheVariants.{Real}
 use Rattle.lp_rows.specs.declared.columns.Col.{Col}
 use Rattle.lp_rows.specs.declared.columns.Sign.{Sign}
 use Rattle.lp_rows.specs.declared.columns.Sign.TheVariants.{Free, Nonneg}
@@ -48,6 +49,10 @@ place_most [] j = omega arith
 place_most (c ∷ cs) zero = omega arith
 place_most (c ∷ cs) (suc j) = let i = place_most cs j in let w = width_most c.sign in omega arith
 
+-- what code reads past a list's end
+abbrev pub past_end : Col
+past_end = record { kind = Real; sign = Free }
+
 pub sign_read : (cols : List Col) (j : ℕ) (d : Col) → j < length cols → (get_or cols j d).sign ≡ sign_at cols j
 sign_read [] j d h = absurd (omega arith)
 sign_read (c ∷ cs) zero d h = refl
@@ -55,3 +60,7 @@ sign_read (c ∷ cs) (suc j) d h = sign_read cs j d (omega arith)
 
 pub place_mono : (cols : List Col) (j k : ℕ) → j ≤ k → place cols j ≤ place cols k
 place_mono cols j k h = let e : j + (k - j) ≡ k = omega arith in subst (λ n. place cols j ≤ place cols n) e (place_upto cols j (k - j))
+
+-- the width that code reads
+pub width_read : (cols : List Col) (j : ℕ) → j < length cols → width_of (get_or cols j past_end).sign ≡ width_of (sign_at cols j)
+width_read cols j h = ap width_of (sign_read cols j past_end h)

@@ -1,23 +1,21 @@
 -- Force and standard form have the same points and the same goal.
-use Rattle.std.proofs.Common.{◌≡◌, ◌<◌, ◌≤◌, ◌+◌, ℕ, Bool, true, ◌&&◌, List, [], ◌∷◌, length, map, ℤ, pos, ◌+ℤ◌, ◌*ℤ◌, ◌≤ℤ◌, nat_le, All, arith, refl, ap, sym, ◌∙◌, subst}
+use Rattle.std.proofs.Common.{◌≡◌, ◌<◌, ◌≤◌, ℕ, Bool, true, false, ◌&&◌, List, [], ◌∷◌, length, map, ℤ, pos, ◌*ℤ◌, ◌≤ℤ◌, nat_le, All, arith, refl, sym, ◌∙◌, subst}
+use Rattle.std.proofs.lemmas.Bool.Decides.{nat_tests}
 use Rattle.std.proofs.lemmas.List.{length-map}
 use Rattle.std.proofs.lemmas.List.Elements.{All-nil, All-cons, All-head, All-tail}
 use Rattle.std.specs.List.{list_all}
 use Rattle.int_linear.specs.Sums.{at}
-use Rattle.int_linear.specs.Terms.{dot}
-use Rattle.lp_rows.specs.Holding.{ids_below}
 use Rattle.lp_rows.specs.Points.{PointValue}
 use Rattle.lp_rows.specs.declared.columns.Col.{Col}
-use Rattle.lp_rows.specs.declared.columns.Sign.TheVariants.{Nonneg}
 use Rattle.lp_frame.specs.declared.force.AtMost.{AtMost}
 use Rattle.lp_frame.specs.declared.force.Force.{Force}
 use Rattle.lp_frame.specs.Force.{HoldsAt, IsForcePoint, is_narrow, are_terms, is_row, is_bounded}
 use Rattle.lp_frame.specs.Split.{place, sign_at, joined, lifted, split_terms}
-use Rattle.lp_frame.specs.Standard.{Standard, is_standard, standard_of, split_row, IsStandardPoint, IsSplit, SamePoints, IsLifted, KeepsPoint}
-use Rattle.lp_frame.proofs.Places.{place_within, width_some}
+use Rattle.lp_frame.specs.Standard.{is_standard, standard_of, split_row, IsStandardPoint, IsSplit, SamePoints, IsLifted, KeepsPoint}
+use Rattle.lp_frame.proofs.Places.{place_within, place_length, width_some}
 use Rattle.lp_frame.proofs.Parts.{parted, parted_above, lifted_parted}
 use Rattle.lp_frame.proofs.Terms.{dot_split, dot_same, terms_below, split_are_rows, split_are_terms}
-use Rattle.lp_frame.proofs.Tests.{both, first, second}
+use Rattle.lp_frame.proofs.Both.{both, first, second}
 
 -- what a bounded force says
 pub few_rows : (force : Force) → is_bounded force ≡ true → nat_le (length force.rows) 4000 ≡ true
@@ -48,6 +46,23 @@ good_goal force h =
     let d = list_all (is_row (length force.cols)) force.rows in
     second (a && b && d) (are_terms (length force.cols) force.goal) h
 
+pub few_split : (force : Force) → is_bounded force ≡ true → place force.cols (length force.cols) ≤ 4000
+few_split force h = let f = few_columns force h in grind (arith, nat_tests)
+
+pub few_cols : (force : Force) → is_bounded force ≡ true → length force.cols ≤ 4000
+few_cols force h = let f = few_split force h in let l = place_length force.cols in omega arith
+
+and_false : (a : Bool) → (a && false) ≡ false
+and_false true = refl
+and_false false = refl
+
+-- with too many columns there are too many split ones
+pub many_columns : (force : Force) → 4000 < length force.cols → is_bounded force ≡ false
+many_columns force h =
+    let l = place_length force.cols in
+    let wide : nat_le (place force.cols (length force.cols)) 4000 ≡ false = (let g : 4000 < place force.cols (length force.cols) = omega arith in grind (arith, nat_tests)) in
+    rw (wide, and_false (nat_le (length force.rows) 4000))
+
 -- a row over the split columns holds where the row holds at the lifted numbers
 rows_lift : (cols : List Col) (rows : List AtMost) (over : ℤ) (w : ℕ → ℤ) → All (HoldsAt over w) (map (split_row cols) rows) → All (HoldsAt over (lifted cols w)) rows
 rows_lift cols [] over w h = All-nil (HoldsAt over (lifted cols w))
@@ -71,26 +86,26 @@ lifted_point force over w h = record {
       let within = place_within force.cols j l in
       let some = width_some (sign_at force.cols j) in
       subst (λ s. pos 0 ≤ℤ joined s w (place force.cols j)) (sym e) (h.signs (place force.cols j) (omega arith));
-  rows = rows_lift force.cols force.rows over w h.rows
+  rows = rows_lift force.cols force.rows over w h.rows;
 }
 
 pub split_point : (force : Force) (over : ℤ) (v : ℕ → ℤ) → is_bounded force ≡ true → IsForcePoint force over v → IsSplit force (standard_of force) over v (parted force.cols v)
 split_point force over v b h =
     let same = lifted_parted force.cols v in
     record {
-  point = record {
-    signs = λ k l. parted_above force.cols v h.signs k;
-    rows = rows_split force.cols force.rows over v (parted force.cols v) (good_rows force b) same h.rows
-  };
-  back = same;
-  goal = dot_split force.cols force.goal (parted force.cols v) ∙ dot_same (length force.cols) force.goal (lifted force.cols (parted force.cols v)) v (terms_below (length force.cols) force.goal (good_goal force b)) same
-}
+      point = record {
+        signs = λ k l. parted_above force.cols v h.signs k;
+        rows = rows_split force.cols force.rows over v (parted force.cols v) (good_rows force b) same h.rows;
+      };
+      back = same;
+      goal = dot_split force.cols force.goal (parted force.cols v) ∙ dot_same (length force.cols) force.goal (lifted force.cols (parted force.cols v)) v (terms_below (length force.cols) force.goal (good_goal force b)) same;
+    }
 
 pub same_points : (force : Force) → is_bounded force ≡ true → SamePoints force (standard_of force)
 same_points force b = record {
   lifts = lifted_point force;
   goal = dot_split force.cols force.goal;
-  splits = λ over v h. (parted force.cols v, split_point force over v b h)
+  splits = λ over v h. (parted force.cols v, split_point force over v b h);
 }
 
 pub standard_is_standard : (force : Force) → is_bounded force ≡ true → is_standard (standard_of force) ≡ true
@@ -119,11 +134,11 @@ pub keeps_point : (force : Force) (split point : PointValue) → is_bounded forc
 keeps_point force split point b h =
     let back : (j : ℕ) → j < length force.cols → lifted force.cols (at split.nums) j ≡ at point.nums j = λ j l. sym (h.each j l) in
     record {
-  stays = λ p.
-      let at_lifted = lifted_point force split.over (at split.nums) p in
-      rw h.over (record {
-    signs = λ j l e. subst (λ z. pos 0 ≤ℤ z) (back j l) (at_lifted.signs j l e);
-    rows = rows_same (length force.cols) force.rows split.over (lifted force.cols (at split.nums)) (at point.nums) (good_rows force b) back at_lifted.rows
-  });
-  goal = sym (dot_same (length force.cols) force.goal (lifted force.cols (at split.nums)) (at point.nums) (terms_below (length force.cols) force.goal (good_goal force b)) back) ∙ sym (dot_split force.cols force.goal (at split.nums))
-}
+      stays = λ p.
+          let at_lifted = lifted_point force split.over (at split.nums) p in
+          rw h.over (record {
+            signs = λ j l e. subst (λ z. pos 0 ≤ℤ z) (back j l) (at_lifted.signs j l e);
+            rows = rows_same (length force.cols) force.rows split.over (lifted force.cols (at split.nums)) (at point.nums) (good_rows force b) back at_lifted.rows;
+          });
+      goal = sym (dot_same (length force.cols) force.goal (lifted force.cols (at split.nums)) (at point.nums) (terms_below (length force.cols) force.goal (good_goal force b)) back) ∙ sym (dot_split force.cols force.goal (at split.nums));
+    }

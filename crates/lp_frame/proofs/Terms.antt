@@ -1,5 +1,5 @@
 -- Terms over the split columns: their sum, and what they keep of the terms that they come from.
-use Rattle.std.proofs.Common.{◌≡◌, ◌<◌, ◌≤◌, ◌+◌, ◌^◌, ℕ, zero, suc, Bool, true, List, [], ◌∷◌, ◌++◌, length, map, drop, get_or, ℤ, pos, negsuc, neg_ℤ, ◌+ℤ◌, ◌-ℤ◌, ◌*ℤ◌, ◌&&◌, unsigned_abs, nat_le, nat_lt, arith, refl, ap, sym, ◌∙◌, add-one, drop-cons}
+use Rattle.std.proofs.Common.{◌≡◌, ◌<◌, ◌≤◌, ◌+◌, ℕ, zero, suc, true, List, [], ◌∷◌, ◌++◌, length, map, drop, get_or, ℤ, pos, negsuc, neg_ℤ, ◌+ℤ◌, ◌*ℤ◌, ◌&&◌, nat_le, nat_lt, arith, refl, ap, ◌∙◌, add-one, drop-cons}
 use Rattle.std.proofs.lemmas.Int.{ints}
 use Rattle.std.proofs.lemmas.Bool.Decides.{nat_tests}
 use Rattle.std.specs.List.{list_all}
@@ -15,7 +15,7 @@ use Rattle.lp_frame.specs.Force.{is_narrow, are_terms, is_row}
 use Rattle.lp_frame.specs.Split.{width_of, place, sign_at, split_term, split_terms, joined, lifted}
 use Rattle.lp_frame.specs.Standard.{split_row}
 use Rattle.lp_frame.proofs.Places.{place_next, place_within, place_mono, place_zero}
-use Rattle.lp_frame.proofs.Tests.{both, first, second}
+use Rattle.lp_frame.proofs.Both.{both, first, second}
 
 -- one term's sum over its columns
 dot_term : (s : Sign) (k : ℕ) (a : ℤ) (rest : List (ℕ × ℤ)) (w : ℕ → ℤ) → dot (split_term s k a ++ rest) w ≡ a *ℤ joined s w k +ℤ dot rest w

@@ -4,7 +4,6 @@ use Rattle.std.specs.List.{list_all}
 use Rattle.int_linear.specs.Terms.{dot}
 use Rattle.lp_rows.specs.Holding.{ids_below}
 use Rattle.lp_rows.specs.Rows.{ascends_from}
-use Rattle.lp_rows.specs.declared.columns.Col.{Col}
 use Rattle.lp_rows.specs.declared.columns.Sign.TheVariants.{Nonneg}
 use Rattle.lp_frame.specs.declared.force.AtMost.{AtMost}
 use Rattle.lp_frame.specs.declared.force.Force.{Force}

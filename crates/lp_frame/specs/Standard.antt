@@ -36,7 +36,7 @@ abbrev pub standard_of : Force → Standard
 standard_of force = record {
   columns = place force.cols (length force.cols);
   rows = map (split_row force.cols) force.rows;
-  goal = split_terms force.cols force.goal
+  goal = split_terms force.cols force.goal;
 }
 
 -- split numbers of these numbers: they are a point of the form, give these numbers back, and have the same goal

@@ -16,3 +16,6 @@ pub use form::{StandardForm, standard};
 pub use lifting::lift;
 pub use mults::Mults;
 pub use sizes::bounded;
+
+#[cfg(test)]
+mod tests;

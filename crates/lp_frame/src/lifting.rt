@@ -30,7 +30,7 @@ pub fn lift(alloc: Global, force: &Force, split: &Point) -> Result<Point, Memory
 fn lifted_nums(alloc: Global, cols: &[Col], split: &[i128]) -> Result<Vec<i128>, Memory>
     requires count { length split.now ≡ place cols.now (length cols.now) }
     requires signs { All (λ n. pos 0 ≤ℤ n) split.now }
-    ensures { IfOk result (AreLifted cols.now split.now) }
+    ensures { IfOk result (λ nums. AreLifted cols.now split.now nums.items) }
 {
     let mut nums = Vec::new(alloc);
     let mut place = 0;

@@ -63,9 +63,13 @@ fn is_row_over(columns: usize, row: &AtMost) -> bool
 fn are_terms_over(columns: usize, terms: &[(u32, i128)]) -> bool
     ensures { result ≡ are_terms columns terms.now }
 {
-    do_ids_ascend(terms)
-        && are_ids_below(terms, columns)
-        && terms.iter().all(|term| is_not_least(term.1))
+    do_ids_ascend(terms) && are_ids_below(terms, columns) && has_no_least(terms)
+}
+
+fn has_no_least(terms: &[(u32, i128)]) -> bool
+    ensures { result ≡ list_all (λ t. is_narrow t.1) terms.now }
+{
+    terms.iter().all(|term| is_not_least(term.1))
 }
 
 fn is_not_least(number: i128) -> bool
