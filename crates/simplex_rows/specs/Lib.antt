@@ -1,5 +1,6 @@
 pub mod Dropped
 pub mod Laws
+pub mod Matrix
 pub mod Steps
 pub mod Tableau
 pub mod Width

@@ -2,8 +2,10 @@
 #![tactic(auto)]
 
 pub mod laws;
+pub mod matrix;
 pub mod row;
 mod slices;
 mod steps;
 
+pub use matrix::{clear_rows, first_wide_entry};
 pub use row::Row;

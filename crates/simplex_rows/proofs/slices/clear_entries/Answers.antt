@@ -1,8 +1,8 @@
-use Rattle.std.proofs.Common.{◌≡◌, ◌≢◌, ℕ, ℤ, pos, length, FitsSigned, rules, arith, sym}
+use Rattle.std.proofs.Common.{length, FitsSigned, rules, sym}
 use Rattle.std.specs.Int.{w128}
 use Rattle.std.proofs.lemmas.Int.{to_z-of_z}
 use Rattle.int_linear.specs.Sums.{at}
-use Rattle.simplex_rows.specs.Steps.{IsStepped, HasEntry, IsPrimitivePart, IsCleared}
+use Rattle.simplex_rows.specs.Steps.{IsStepped, HasEntry, IsPrimitivePart}
 use Rattle.simplex_rows.specs.Width.{IsFactors, IsNarrowBy}
 use Rattle.simplex_rows.proofs.Factors.{cleared_by, stepped_entry, stepped_narrow}
 use Rattle.simplex_rows.proofs.slices.clear_entries.Goals as goal
@@ -26,7 +26,7 @@ make_primitive-requires-clause-some c =
     let factors : IsFactors (at c.args.pivot.now c.args.enter) (at c.args.entries.now c.args.enter) c.factors-a.result.0 c.factors-a.result.1 = simp to_z-of_z at c.factors-a.ensures in
     let stepped : IsStepped (length c.args.entries.now) c.factors-a.result.0 c.factors-a.result.1 (at c.args.entries.now) (at c.args.pivot.now) (at c.step_entries.new.entries) = simp to_z-of_z at c.step_entries.ensures in
     let some : HasEntry (length c.args.entries.now) (at c.step_entries.new.entries) =
-        stepped_entry (length c.args.entries.now) c.args.enter c.factors-a.result.0 c.factors-a.result.1 (at c.args.entries.now) (at c.args.pivot.now) (at c.step_entries.new.entries) c.requires.positive factors stepped c.requires.kept in
+    stepped_entry (length c.args.entries.now) c.args.enter c.factors-a.result.0 c.factors-a.result.1 (at c.args.entries.now) (at c.args.pivot.now) (at c.step_entries.new.entries) c.requires.positive factors stepped c.requires.kept in
     rw c.step_entries.auto.entries some
 
 pub make_primitive-requires-clause-narrow : goal.make_primitive-requires-clause-narrow

@@ -1,4 +1,4 @@
-use Rattle.std.proofs.Common.{◌≡◌, ◌+◌, ◌<◌, ◌*ℤ◌, ℕ, ℤ, pos, length, set, FitsSigned, unsigned_abs, rules, arith, refl, ap, subst, sym, ◌∙◌}
+use Rattle.std.proofs.Common.{◌≡◌, ◌+◌, ◌*ℤ◌, ℤ, pos, set, FitsSigned, unsigned_abs, rules, arith, subst, sym, ◌∙◌}
 use Rattle.std.specs.Int.{w128, ◌∣◌}
 use Rattle.std.proofs.lemmas.Int.{to_z-of_z}
 use lib.IntN.{*ℤ_comm}
@@ -24,6 +24,6 @@ loop-j-preserved c =
     let before : IsWritten {X = ℤ} (pos 0) (λ k x. c.args.divisor *ℤ x ≡ at c.args.entries.now k) c.args.entries.now c.loop-j.entries c.loop-j.j = simp to_z-of_z at c.loop-j.invariant in
     let whole : c.exact_quotient.result *ℤ c.args.divisor ≡ at c.loop-j.entries c.loop-j.j = simp to_z-of_z at c.exact_quotient.ensures in
     let next : IsWritten {X = ℤ} (pos 0) (λ k x. c.args.divisor *ℤ x ≡ at c.args.entries.now k) c.args.entries.now (set c.loop-j.entries c.loop-j.j c.exact_quotient.result) (c.loop-j.j + 1) =
-        written_more (pos 0) (λ k x. c.args.divisor *ℤ x ≡ at c.args.entries.now k) c.args.entries.now c.loop-j.entries c.loop-j.j c.exact_quotient.result (omega arith) before
-            (*ℤ_comm c.args.divisor c.exact_quotient.result ∙ whole ∙ same) in
+    written_more (pos 0) (λ k x. c.args.divisor *ℤ x ≡ at c.args.entries.now k) c.args.entries.now c.loop-j.entries c.loop-j.j c.exact_quotient.result (omega arith) before
+    (*ℤ_comm c.args.divisor c.exact_quotient.result ∙ whole ∙ same) in
     simp to_z-of_z next

@@ -1,4 +1,4 @@
-use Rattle.std.proofs.Common.{◌≡◌, ◌≢◌, ℕ, ℤ, pos, Option, Some, None, length, FitsSigned, MatchOption, rules}
+use Rattle.std.proofs.Common.{◌≢◌, ℕ, ℤ, pos, Option, Some, None, length, FitsSigned, MatchOption, rules}
 use Rattle.std.specs.Int.{w128}
 use Rattle.std.proofs.lemmas.Int.{to_z-of_z}
 use Rattle.int_linear.specs.Sums.{at}

@@ -1,4 +1,4 @@
-use Rattle.std.proofs.Common.{◌≡◌, ◌+◌, ◌<◌, ℕ, ℤ, List, length, unsigned_abs, subst, rules, arith}
+use Rattle.std.proofs.Common.{◌≡◌, ◌+◌, ℕ, ℤ, List, length, unsigned_abs, subst, rules, arith}
 use Rattle.std.specs.Int.{IsGcd}
 use Rattle.int_linear.specs.Sums.{at}
 use Rattle.int_linear.specs.Divisors.{IsRowGcd}
@@ -13,7 +13,7 @@ returns-then-divisor-eq1 c =
     let size : c.unsigned_abs.result ≡ unsigned_abs (at c.args.entries.now c.loop-entry.entry-index) = search rules in
     let next = more c.args.entries.now c.loop-entry.entry-index c.loop-entry.divisor c.unsigned_abs.result c.gcd_of_magnitudes-divisor.result c.loop-entry.invariant size c.gcd_of_magnitudes-divisor.ensures in
     row_gcd_one (c.loop-entry.entry-index + 1) (length c.args.entries.now) (at c.args.entries.now) (omega arith)
-        (subst (λ g. IsRowGcd (c.loop-entry.entry-index + 1) (at c.args.entries.now) g) c.if-divisor-eq1.true next)
+    (subst (λ g. IsRowGcd (c.loop-entry.entry-index + 1) (at c.args.entries.now) g) c.if-divisor-eq1.true next)
 
 pub loop-entry-preserved : goal.loop-entry-preserved
 loop-entry-preserved c =

@@ -1,4 +1,4 @@
-use Rattle.std.proofs.Common.{◌≡◌, ◌+◌, ◌<◌, ◌*ℤ◌, ◌-ℤ◌, ℕ, ℤ, pos, List, length, set, FitsSigned, rules, arith, refl, ap, subst, sym, ◌∙◌}
+use Rattle.std.proofs.Common.{◌≡◌, ◌+◌, ◌*ℤ◌, ◌-ℤ◌, ℕ, ℤ, pos, set, FitsSigned, rules, arith, ap, subst, sym, ◌∙◌}
 use Rattle.std.specs.Int.{w128}
 use Rattle.std.proofs.lemmas.Int.{to_z-of_z, ints}
 use Rattle.int_linear.specs.Sums.{at}
@@ -36,20 +36,21 @@ loop-j-preserved c =
     let fits_pivot : FitsSigned w128 (at c.args.pivot.now c.loop-j.j) = search rules in
     let same : at c.loop-j.entries c.loop-j.j ≡ at c.args.entries.now c.loop-j.j = c.loop-j.invariant.left c.loop-j.j (omega arith) in
     let next : IsWritten {X = ℤ} (pos 0) Should c.args.entries.now c.if-has_step.entries (c.loop-j.j + 1) =
-        elim c.if-has_step.branch as (λ _. IsWritten {X = ℤ} (pos 0) Should c.args.entries.now c.if-has_step.entries (c.loop-j.j + 1)) [
-            then-has_step w ↦
-                let fits_result : FitsSigned w128 w.step_entry.result = search rules in
-                let value : w.step_entry.result ≡ c.args.a *ℤ at c.loop-j.entries c.loop-j.j -ℤ c.args.b *ℤ at c.args.pivot.now c.loop-j.j = simp to_z-of_z at w.step_entry.ensures in
-                let written : c.if-has_step.entries ≡ set c.loop-j.entries c.loop-j.j w.step_entry.result = simp to_z-of_z at w.entries-is in
-                subst (λ es. IsWritten {X = ℤ} (pos 0) Should c.args.entries.now es (c.loop-j.j + 1)) (sym written)
-                    (written_more (pos 0) Should c.args.entries.now c.loop-j.entries c.loop-j.j w.step_entry.result (omega arith) before
-                        (value ∙ ap (λ z. c.args.a *ℤ z -ℤ c.args.b *ℤ at c.args.pivot.now c.loop-j.j) same))
-          | else-has_step w ↦
-                let none = w.if-has_step.ensures in
-                let kept : c.if-has_step.entries ≡ c.loop-j.entries = w.entries-is in
-                let zeros : (at c.loop-j.entries c.loop-j.j ≡ pos 0) × (at c.args.pivot.now c.loop-j.j ≡ pos 0) = simp to_z-of_z at (c.has_step.ensures w.if-has_step.false) in
-                subst (λ es. IsWritten {X = ℤ} (pos 0) Should c.args.entries.now es (c.loop-j.j + 1)) (sym kept)
-                    (written_over (pos 0) Should c.args.entries.now c.loop-j.entries c.loop-j.j before
-                        (nothing c.args.a c.args.b (at c.loop-j.entries c.loop-j.j) (at c.args.pivot.now c.loop-j.j) zeros.0 zeros.1
-                        ∙ ap (λ z. c.args.a *ℤ z -ℤ c.args.b *ℤ at c.args.pivot.now c.loop-j.j) same)) ] in
+    elim c.if-has_step.branch as (λ _. IsWritten {X = ℤ} (pos 0) Should c.args.entries.now c.if-has_step.entries (c.loop-j.j + 1)) [
+      | then-has_step w ↦
+          let fits_result : FitsSigned w128 w.step_entry.result = search rules in
+          let value : w.step_entry.result ≡ c.args.a *ℤ at c.loop-j.entries c.loop-j.j -ℤ c.args.b *ℤ at c.args.pivot.now c.loop-j.j = simp to_z-of_z at w.step_entry.ensures in
+          let written : c.if-has_step.entries ≡ set c.loop-j.entries c.loop-j.j w.step_entry.result = simp to_z-of_z at w.entries-is in
+          subst (λ es. IsWritten {X = ℤ} (pos 0) Should c.args.entries.now es (c.loop-j.j + 1)) (sym written)
+          (written_more (pos 0) Should c.args.entries.now c.loop-j.entries c.loop-j.j w.step_entry.result (omega arith) before
+          (value ∙ ap (λ z. c.args.a *ℤ z -ℤ c.args.b *ℤ at c.args.pivot.now c.loop-j.j) same))
+      | else-has_step w ↦
+          let none = w.if-has_step.ensures in
+          let kept : c.if-has_step.entries ≡ c.loop-j.entries = w.entries-is in
+          let zeros : (at c.loop-j.entries c.loop-j.j ≡ pos 0) × (at c.args.pivot.now c.loop-j.j ≡ pos 0) = simp to_z-of_z at (c.has_step.ensures w.if-has_step.false) in
+          subst (λ es. IsWritten {X = ℤ} (pos 0) Should c.args.entries.now es (c.loop-j.j + 1)) (sym kept)
+          (written_over (pos 0) Should c.args.entries.now c.loop-j.entries c.loop-j.j before
+          (nothing c.args.a c.args.b (at c.loop-j.entries c.loop-j.j) (at c.args.pivot.now c.loop-j.j) zeros.0 zeros.1
+          ∙ ap (λ z. c.args.a *ℤ z -ℤ c.args.b *ℤ at c.args.pivot.now c.loop-j.j) same))
+    ] in
     simp to_z-of_z next

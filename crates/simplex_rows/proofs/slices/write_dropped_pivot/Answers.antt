@@ -1,10 +1,9 @@
-use Rattle.std.proofs.Common.{◌≡◌, ◌≢◌, ◌<◌, ◌≤ℤ◌, ◌<ℤ◌, ℤ, pos, negsuc, cond, MatchBool, length, set, FitsSigned, rules, arith, sym, ◌∙◌}
+use Rattle.std.proofs.Common.{◌≡◌, ◌≤ℤ◌, ◌<ℤ◌, ℤ, pos, negsuc, cond, MatchBool, length, set, FitsSigned, rules, sym, ◌∙◌}
 use Rattle.std.specs.Int.{w128}
 use Rattle.std.proofs.lemmas.Int.{to_z-of_z}
 use Rattle.std.proofs.lemmas.List.{length-set}
 use Rattle.int_linear.specs.Sums.{at}
 use Rattle.simplex_rows.specs.Steps.{IsCopy, IsPrimitivePart, HasEntry}
-use Rattle.simplex_rows.specs.Width.{IsNarrowRow}
 use Rattle.simplex_rows.proofs.Factors.{sign_of, sign_is_one, dropped_pivot_by, cut_narrow, cut_entry}
 use Rattle.simplex_rows.proofs.slices.write_dropped_pivot.Goals as goal
 
@@ -16,8 +15,8 @@ make_primitive-requires-clause-some c =
     let copy : IsCopy (length c.args.from.now) sign (at c.args.from.now) (at c.copy_signed.new.entries) = rw (sym c.requires.same) c.copy_signed.ensures in
     let size : length c.copy_signed.new.entries ≡ length c.args.from.now = c.copy_signed.auto.entries ∙ c.requires.same in
     let some : HasEntry (length c.args.from.now) (at (set c.copy_signed.new.entries c.args.column (pos 0))) =
-        cut_entry (length c.args.from.now) c.args.enter c.args.column sign (at c.args.from.now) c.copy_signed.new.entries c.requires.within c.requires.column c.requires.other size
-            (sign_of c.is_negative-negate.result (at c.args.from.now c.args.enter) c.requires.entry negative) copy in
+    cut_entry (length c.args.from.now) c.args.enter c.args.column sign (at c.args.from.now) c.copy_signed.new.entries c.requires.within c.requires.column c.requires.other size
+    (sign_of c.is_negative-negate.result (at c.args.from.now c.args.enter) c.requires.entry negative) copy in
     simp length-set (rw size some)
 
 pub make_primitive-requires-clause-narrow : goal.make_primitive-requires-clause-narrow
@@ -36,4 +35,4 @@ returns-clause-pivot c =
     let whole : length (set c.copy_signed.new.entries c.args.column (pos 0)) ≡ length c.args.from.now = length-set c.copy_signed.new.entries c.args.column (pos 0) ∙ size in
     let part : IsPrimitivePart (length c.args.from.now) (at (set c.copy_signed.new.entries c.args.column (pos 0))) (at c.make_primitive.new.entries) = rw (sym whole) c.make_primitive.ensures.part in
     dropped_pivot_by (length c.args.from.now) c.args.enter c.args.column sign (at c.args.from.now) c.copy_signed.new.entries (at c.make_primitive.new.entries) c.requires.within c.requires.column c.requires.other size
-        (sign_is_one c.is_negative-negate.result) (sign_of c.is_negative-negate.result (at c.args.from.now c.args.enter) c.requires.entry negative) copy part
+    (sign_is_one c.is_negative-negate.result) (sign_of c.is_negative-negate.result (at c.args.from.now c.args.enter) c.requires.entry negative) copy part

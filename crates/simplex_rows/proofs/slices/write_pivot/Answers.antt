@@ -1,4 +1,4 @@
-use Rattle.std.proofs.Common.{◌≡◌, ◌≢◌, ◌≤ℤ◌, ◌<ℤ◌, ℤ, pos, negsuc, cond, MatchBool, length, FitsSigned, rules, arith, sym}
+use Rattle.std.proofs.Common.{◌≤ℤ◌, ◌<ℤ◌, ℤ, pos, negsuc, cond, MatchBool, length, FitsSigned, rules, sym}
 use Rattle.std.specs.Int.{w128}
 use Rattle.std.proofs.lemmas.Int.{to_z-of_z}
 use Rattle.int_linear.specs.Sums.{at}
@@ -13,7 +13,7 @@ returns-clause-pivot c =
     let sign : ℤ = cond c.is_negative-negate.result (negsuc 0) (pos 1) in
     let copy : IsCopy (length c.args.from.now) sign (at c.args.from.now) (at c.copy_signed.new.entries) = rw (sym c.requires.same) c.copy_signed.ensures in
     pivot_by (length c.args.from.now) c.args.enter sign (at c.args.from.now) (at c.copy_signed.new.entries) c.requires.within (sign_is_one c.is_negative-negate.result)
-        (sign_of c.is_negative-negate.result (at c.args.from.now c.args.enter) c.requires.entry negative) copy c.requires.primitive
+    (sign_of c.is_negative-negate.result (at c.args.from.now c.args.enter) c.requires.entry negative) copy c.requires.primitive
 
 pub returns-clause-narrow : goal.returns-clause-narrow
 returns-clause-narrow c =

@@ -1,4 +1,4 @@
-use Rattle.std.proofs.Common.{◌≡◌, ℤ, pos, length, rules}
+use Rattle.std.proofs.Common.{◌≡◌, pos, length, rules}
 use Rattle.int_linear.specs.Sums.{at}
 use Rattle.simplex_rows.proofs.Factors.{cleared_already}
 use Rattle.simplex_rows.proofs.row.Row.clear.Goals as goal

@@ -1,0 +1,7 @@
+pub mod Bland
+pub mod Choice
+pub mod Equations
+pub mod Exchange
+pub mod Log
+pub mod Run
+pub mod Table

@@ -1,0 +1,123 @@
+//! The tableau, and its exchange.
+
+ghost use Rattle.std.specs.Prelude.{◌≡◌, ◌||◌, ℕ, ℤ, ◌+◌, ◌≤◌, OnOk, OnErr, IfErr, IfSome, IfNone};
+ghost use Rattle.exact_simplex.specs.Table.{IsTableauFor};
+ghost use Rattle.exact_simplex.specs.Bland.{bland_move};
+ghost use Rattle.exact_simplex.specs.Exchange.{IsExchanged, IsNarrowMove, IsWideAtEntry};
+ghost use Rattle.exact_simplex.specs.Run.{HasRun, HasEnded, HasTurned};
+
+use crate::bland::move_of;
+use crate::choosing::find_row;
+use crate::exchange::exchange_rows;
+use crate::log::{Event, Log};
+use crate::moves::{Move, Outcome};
+use lp_rows::WideAt;
+use simplex_rows::Row;
+use std::marker::Model;
+
+/// The tableau of a basis, which contracts see as a `Table`.
+#[derive(Drop)]
+pub struct Tableau {
+    columns: usize,
+    height: usize,
+    rows: Vec<Row>,
+    basis: Vec<usize>,
+    dropped: bool,
+    spare: Row,
+}
+
+impl Model for Tableau {
+    ghost use Rattle.exact_simplex.specs.Table.{Table, IsSoundWith};
+
+    ghost Value = { Table };
+
+    ghost view = { λ t. record { columns = t.columns; height = t.height; rows = t.rows.items; basis = t.basis.items; dropped = t.dropped } };
+
+    ghost invariant = { λ t. IsSoundWith (record { columns = t.columns; height = t.height; rows = t.rows.items; basis = t.basis.items; dropped = t.dropped }) t.spare };
+}
+
+impl Tableau {
+    /// The move that Bland's rule names.
+    pub fn bland(&self) -> Move
+        ensures { result ≡ bland_move self.now }
+    {
+        move_of(&self.rows, &self.basis, self.columns, self.height)
+    }
+
+    /// Makes the entering column basic in the place of the leaving one, which are those that `bland` names. Where a
+    /// number of the exchange isn't narrow, it names the first such by row and then column, and changes nothing.
+    pub fn exchange(&mut self, enter: u32, leave: u32) -> Result<(), WideAt>
+        requires { bland_move self.old ≡ Move.Exchange enter leave }
+        ensures ok { OnOk result (IsExchanged self.old self.new enter leave) }
+        ensures narrow { OnOk result (IsNarrowMove self.old enter leave) }
+        ensures tableau { OnOk result ((equation : ℕ → ℕ → ℤ) → IsTableauFor equation self.old → IsTableauFor equation self.new) }
+        ensures wide { IfErr result (IsWideAtEntry self.old enter leave) }
+        ensures unchanged { OnErr result (self.new ≡ self.old) }
+    {
+        let enter = enter as usize;
+        let leave = leave as usize;
+        let column = self.columns + self.height;
+        let row = find_row(&self.basis, self.height, leave);
+        let drops = leave == column;
+        match exchange_rows(&mut self.rows, &mut self.spare, row, enter, column, drops) {
+            Err(place) => Err(WideAt::Entry {
+                row: place.0 as u32,
+                column: place.1 as u32,
+            }),
+            Ok(()) => {
+                self.basis[row] = enter;
+                self.dropped = either(self.dropped, drops);
+                Ok(())
+            }
+        }
+    }
+
+    /// Makes Bland's moves, logs each and takes one from `steps` for each, until none is due, no step is left, or
+    /// a number of the exchange that is due isn't narrow. It takes no memory.
+    pub fn run(&mut self, steps: &mut u32, log: &mut Log) -> Outcome
+        requires { steps.old ≤ log.old.spare }
+        ensures moves { HasRun self.old self.new steps.old steps.new log.old.events log.new.events }
+        ensures tableau { (equation : ℕ → ℕ → ℤ) → IsTableauFor equation self.old → IsTableauFor equation self.new }
+        ensures ended { HasEnded self.new steps.new result }
+        ensures spare { log.new.spare + steps.old ≡ log.old.spare + steps.new }
+    {
+        'turns: loop {
+            match self.turn(steps, log) {
+                None => {}
+                Some(outcome) => return outcome,
+            }
+        }
+    }
+
+    // One move, or how the run has ended.
+    fn turn(&mut self, steps: &mut u32, log: &mut Log) -> Option<Outcome>
+        requires { steps.old ≤ log.old.spare }
+        ensures ended { IfSome result (λ outcome. HasEnded self.new steps.new outcome × (self.new ≡ self.old) × (steps.new ≡ steps.old) × (log.new ≡ log.old)) }
+        ensures moved { IfNone result (HasTurned self.old self.new steps.old steps.new log.old log.new) }
+    {
+        match self.bland() {
+            Move::Optimal => Some(Outcome::Optimal),
+            Move::Infeasible => Some(Outcome::Infeasible),
+            Move::Unbounded { enter } => Some(Outcome::Unbounded { enter }),
+            Move::Exchange { enter, leave } => {
+                if *steps == 0 {
+                    return Some(Outcome::Steps);
+                }
+                match self.exchange(enter, leave) {
+                    Err(place) => Some(Outcome::Wide(place)),
+                    Ok(()) => {
+                        *steps -= 1;
+                        log.push(Event::Move { enter, leave });
+                        None
+                    }
+                }
+            }
+        }
+    }
+}
+
+fn either(a: bool, b: bool) -> bool
+    ensures { result ≡ (a || b) }
+{
+    a || b
+}
