@@ -14,7 +14,8 @@ use Rattle.block_tree.specs.declared.tree.Mode.{Mode}
 use Rattle.block_tree.specs.Names.{has_name, is_name}
 use Rattle.block_tree.specs.Scaling.{scale_of, scaled, scaled_terms, sorted_terms}
 use Rattle.block_tree.specs.Tree.{BlockTree, block, row_count_below, row_count_within}
-use Rattle.block_tree.specs.Values.{VarValue, BooleanValue, GoalValue, no_goal, ModelTree}
+use Rattle.block_tree.specs.Variables.{VarValue, BooleanValue}
+use Rattle.block_tree.specs.Values.{GoalValue, no_goal, ModelTree}
 use Rattle.block_tree.specs.View.{DisjunctTree, DisjunctionTree, disjuncts, disjunctions}
 
 -- a block that is open: its indicator and mark, which the root has no use for, and what it holds so far

@@ -1,4 +1,5 @@
 pub mod Building
+pub mod Variables
 pub mod Names
 pub mod Nesting
 pub mod Satisfied

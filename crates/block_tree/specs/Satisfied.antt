@@ -11,7 +11,8 @@ use Rattle.lp_rows.specs.Rows.{RowValue}
 use Rattle.block_tree.specs.declared.tree.Mode.{Mode}
 use Rattle.block_tree.specs.declared.tree.Mode.TheVariants.{Xor, Or}
 use Rattle.block_tree.specs.Tree.{BlockTree, block, Disjunctions, no_disjunctions, disjunction, Disjuncts, no_disjuncts, disjunct}
-use Rattle.block_tree.specs.Values.{VarValue, ModelTree}
+use Rattle.block_tree.specs.Variables.{VarValue}
+use Rattle.block_tree.specs.Values.{ModelTree}
 
 -- a point of a model: a denominator, a numerator for each variable, and a truth value for each Boolean
 pub record PointOf : Type 0 where

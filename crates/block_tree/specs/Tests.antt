@@ -9,7 +9,8 @@ use Rattle.block_tree.specs.declared.errors.Verdict.TheVariants.{Holds, FailsAt}
 use Rattle.block_tree.specs.declared.errors.SumWide.{SumWide}
 use Rattle.block_tree.specs.Satisfied.{PointOf, is_above, is_below, is_of_kind, true_count, mode_allows}
 use Rattle.block_tree.specs.Tree.{DisjunctHead, BlockTree, block, Disjunctions, no_disjunctions, disjunction, Disjuncts, no_disjuncts, disjunct}
-use Rattle.block_tree.specs.Values.{VarValue, ModelTree}
+use Rattle.block_tree.specs.Variables.{VarValue}
+use Rattle.block_tree.specs.Values.{ModelTree}
 
 -- what one test says: it passes, or fails or is wide at a mark
 pub data Test : Type 0 where

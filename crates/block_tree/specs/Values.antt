@@ -1,20 +1,11 @@
 -- What a model is: its variables, its Booleans, its goal and its root block.
 use Rattle.std.specs.Prelude.{ℕ, ℤ, pos, List, []}
-use Rattle.lp_rows.specs.declared.kinds.Kind.{Kind}
 use Rattle.lp_rows.specs.declared.kinds.Sense.{Sense}
 use Rattle.lp_rows.specs.declared.kinds.Sense.TheVariants.{Min}
-use Rattle.block_tree.specs.declared.bounds.Bound.{Bound}
+use Rattle.block_tree.specs.Variables.{VarValue, BooleanValue}
 use Rattle.block_tree.specs.declared.tree.Block.{Block}
 use Rattle.block_tree.specs.Tree.{BlockTree}
 use Rattle.block_tree.specs.View.{block_of}
-
--- a variable: its name, its kind, its bounds and its mark
-abbrev pub VarValue : Type 0
-VarValue = List ℕ × Kind × Bound × ℕ
-
--- a Boolean: its name and its mark
-abbrev pub BooleanValue : Type 0
-BooleanValue = List ℕ × ℕ
 
 -- a goal: the sum of its terms and its constant are whole, and the goal is that sum over the scale
 pub record GoalValue : Type 0 where

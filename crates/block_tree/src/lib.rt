@@ -8,9 +8,13 @@
 #![tactic(auto)]
 
 pub mod bounds;
+pub mod declarations;
 pub mod errors;
+pub mod names;
 pub mod tree;
 
 pub use bounds::Bound;
+pub use declarations::{Booleans, Variables};
 pub use errors::{BuildError, SumWide, Verdict};
+pub use names::{Names, begins_name, continues_name, is_name};
 pub use tree::{Block, Disjunct, Disjunction, Mode};

@@ -1,7 +1,8 @@
 -- Whether a row holds at a point, and, apart from it, whether the numbers on the way fit 128 bits.
 use Rattle.std.specs.Prelude.{ℕ, ℤ, pos, ◌+ℤ◌, ◌*ℤ◌, Bool, true, ◌&&◌, List, [], ◌∷◌, Result, Ok, Err, if◌then◌else◌, nat_lt, int_le, length}
+use Rattle.std.specs.List.{list_all}
 use Rattle.fractions.specs.declared.wide.Wide.{Wide}
-use Rattle.fractions.specs.Width.{fits, wide}
+use Rattle.fractions.specs.Width.{fits, step_fits, wide}
 use Rattle.int_linear.specs.Sums.{at}
 use Rattle.int_linear.specs.Terms.{dot}
 use Rattle.lp_rows.specs.declared.kinds.Rel.{Rel}
@@ -22,14 +23,12 @@ holds_at row over numbers = stands row.rel (dot row.terms numbers) (row.right *�
 
 -- each term names one of the first n places
 abbrev pub ids_below : ℕ → List (ℕ × ℤ) → Bool
-ids_below n [] = true
-ids_below n (t ∷ ts) = nat_lt t.0 n && ids_below n ts
+ids_below n ts = list_all (λ t. nat_lt t.0 n) ts
 
 -- no product is wide, and no partial sum where they are added to `sum` in order
 abbrev pub sum_fits : ℤ → List (ℕ × ℤ) → (ℕ → ℤ) → Bool
 sum_fits sum [] numbers = true
-sum_fits sum (t ∷ ts) numbers =
-    fits (t.1 *ℤ numbers t.0) && fits (sum +ℤ t.1 *ℤ numbers t.0) && sum_fits (sum +ℤ t.1 *ℤ numbers t.0) ts numbers
+sum_fits sum (t ∷ ts) numbers = step_fits sum t.1 (numbers t.0) && sum_fits (sum +ℤ t.1 *ℤ numbers t.0) ts numbers
 
 -- the sum of the terms, or `Wide` where a number on the way is
 abbrev pub sum_or_wide : List (ℕ × ℤ) → (ℕ → ℤ) → Result ℤ Wide

@@ -17,7 +17,7 @@ abbrev pub is_storable : ℤ → Bool
 is_storable number = nat_le (unsigned_abs number) (10 ^ 15)
 
 -- each id is at least `least`, and more than the id before it
-abbrev pub ascends_from : ℕ → List (ℕ × ℤ) → Bool
+abbrev pub ascends_from : {A : Type 0} → ℕ → List (ℕ × A) → Bool
 ascends_from least [] = true
 ascends_from least (t ∷ ts) = nat_le least t.0 && ascends_from (suc t.0) ts
 

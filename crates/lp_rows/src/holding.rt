@@ -1,14 +1,13 @@
 //! Whether a row holds at a point.
 
 ghost use Rattle.std.specs.Prelude.{◌≡◌, true, pos, Ok, Err, ◌+ℤ◌, ◌*ℤ◌, ◌&&◌, if◌then◌else◌, int_le, length};
-ghost use Rattle.fractions.specs.Width.{fits, wide};
 ghost use Rattle.int_linear.specs.Sums.{at as at_place};
 ghost use Rattle.lp_rows.specs.Holding.{ids_below, sum_or_wide, row_test, stands};
 
 use crate::kinds::Rel;
 use crate::points::Point;
 use crate::rows::Row;
-use fractions::Wide;
+use fractions::{Wide, add_product};
 
 /// Whether the row holds at the point: whether the sum of its terms at the numerators stands in its relation to
 /// the right side times the denominator.
@@ -36,7 +35,7 @@ pub fn sum_at(terms: &[(u32, i128)], nums: &[i128]) -> Result<i128, Wide>
 {
     let mut sum = 0;
     for term in terms {
-        let Ok(next) = add_product(sum, term.1, nums[term.0 as usize]) else {
+        let Some(next) = add_product(sum, term.1, nums[term.0 as usize]) else {
             return Err(Wide);
         };
         sum = next;
@@ -44,19 +43,11 @@ pub fn sum_at(terms: &[(u32, i128)], nums: &[i128]) -> Result<i128, Wide>
     Ok(sum)
 }
 
-// One step of a sum of products.
-fn add_product(sum: i128, a: i128, b: i128) -> Result<i128, Wide>
-    ensures {
-        result ≡ (if fits (a *ℤ b) && fits (sum +ℤ a *ℤ b) then Ok (sum +ℤ a *ℤ b) else Err wide)
-    }
+/// Whether each term names one of the first `count` places.
+pub fn are_ids_below(terms: &[(u32, i128)], count: usize) -> bool
+    ensures { result ≡ ids_below count terms.now }
 {
-    let Some(product) = a.checked_mul(b) else {
-        return Err(Wide);
-    };
-    let Some(next) = sum.checked_add(product) else {
-        return Err(Wide);
-    };
-    Ok(next)
+    terms.iter().all(|term| (term.0 as usize) < count)
 }
 
 // Whether the sum stands in the relation to the right side.

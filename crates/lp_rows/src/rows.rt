@@ -3,7 +3,12 @@
 ghost use Rattle.std.specs.Prelude.{◌≡◌, ◌≤◌, length, None};
 ghost use Rattle.fractions.specs.Memory.{OrMemory};
 ghost use Rattle.lp_rows.specs.Rows.{
-    is_storable as storable, ascends_from, has_zero, are_storable, row_refusal, row_made,
+  is_storable as storable,
+  ascends_from,
+  has_zero,
+  are_storable,
+  row_refusal,
+  row_made,
 };
 
 use crate::kinds::Rel;
@@ -59,13 +64,13 @@ impl Row {
         ensures made { OrMemory RowError.Memory result (row_made terms.now rel right) }
         ensures short { length terms.now ≤ 8 → result ≡ row_made terms.now rel right }
     {
-        if !ids_ascend(terms) {
+        if !do_ids_ascend(terms) {
             return Err(RowError::Order);
         }
-        if some_zero(terms) {
+        if has_zero_coefficient(terms) {
             return Err(RowError::Zero);
         }
-        if !(all_storable(terms) && is_storable(right)) {
+        if !(are_coefficients_storable(terms) && is_storable(right)) {
             return Err(RowError::Coefficient);
         }
         let Ok(terms) = Terms::from_slice(alloc, terms) else {
@@ -104,8 +109,8 @@ pub fn is_storable(number: i128) -> bool
     -LARGEST <= number && number <= LARGEST
 }
 
-// Whether the ids ascend strictly.
-fn ids_ascend(terms: &[(u32, i128)]) -> bool
+/// Whether the ids ascend strictly.
+pub fn do_ids_ascend(terms: &[(u32, i128)]) -> bool
     ensures { result ≡ ascends_from 0 terms.now }
 {
     let mut least: u64 = 0;
@@ -118,15 +123,15 @@ fn ids_ascend(terms: &[(u32, i128)]) -> bool
     true
 }
 
-// Whether a coefficient is 0.
-fn some_zero(terms: &[(u32, i128)]) -> bool
+/// Whether a coefficient is 0.
+pub fn has_zero_coefficient(terms: &[(u32, i128)]) -> bool
     ensures { result ≡ has_zero terms.now }
 {
     terms.iter().any(|term| term.1 == 0)
 }
 
-// Whether each coefficient may be stored.
-fn all_storable(terms: &[(u32, i128)]) -> bool
+/// Whether a row or a goal may store each of these coefficients.
+pub fn are_coefficients_storable(terms: &[(u32, i128)]) -> bool
     ensures { result ≡ are_storable terms.now }
 {
     terms.iter().all(|term| is_storable(term.1))

@@ -1,0 +1,12 @@
+-- What is declared under a name: variables and Booleans.
+use Rattle.std.specs.Prelude.{ℕ, List}
+use Rattle.lp_rows.specs.declared.kinds.Kind.{Kind}
+use Rattle.block_tree.specs.declared.bounds.Bound.{Bound}
+
+-- a variable: its name, its kind, its bounds and its mark
+abbrev pub VarValue : Type 0
+VarValue = List ℕ × Kind × Bound × ℕ
+
+-- a Boolean: its name and its mark
+abbrev pub BooleanValue : Type 0
+BooleanValue = List ℕ × ℕ
