@@ -1,5 +1,5 @@
 -- What `test` answers where both texts were read.
-use Rattle.std.proofs.Common.{◌≡◌, ℕ, List, Result, Ok, Err, ◌∙◌, subst, inl}
+use Rattle.std.proofs.Common.{ℕ, List, Result, Ok, Err, ◌∙◌, subst, inl}
 use Rattle.std.specs.Result.{IfOk}
 use Rattle.fractions.specs.declared.memory.Memory.{Memory}
 use Rattle.gdp_io.specs.Shelf.{Contents, SameContents, IsBehind}

@@ -182,11 +182,17 @@ fn tells_faults_and_faulty_words(rt: HostRuntime) {
     }
 }
 
+/// A text of so many blanks.
+fn blanks(rt: &(impl AllocGlobal + Abort), count: usize) -> Vec<u8> {
+    vec![in rt.alloc(); b' '; count].expect(rt, "memory")
+}
+
 #[test]
 fn tells_texts_that_are_too_long(rt: HostRuntime) {
-    let long = vec![in rt.alloc(); b' '; 8_388_609].expect(&rt, "memory");
+    let long = blanks(&rt, 8_388_609);
     let long = long.as_slice();
-    let most = &long[..8_388_608];
+    let most = blanks(&rt, 8_388_608);
+    let most = most.as_slice();
     // Reading comes first: a second text that is too long is told before a bad line of the first.
     let rows: [(&[u8], &[u8], &[u8]); 5] = [
         (long, b"", b"M: too long\n"),
