@@ -1,5 +1,5 @@
 -- What `test` answers where both texts were read.
-use Rattle.std.proofs.Common.{◌≡◌, ℕ, List, Result, Ok, Err, ◌∙◌, subst, inl}
+use Rattle.std.proofs.Common.{ℕ, List, Result, Ok, Err, ◌∙◌, subst, inl}
 use Rattle.std.specs.Result.{IfOk}
 use Rattle.fractions.specs.declared.memory.Memory.{Memory}
 use Rattle.gdp_io.specs.Shelf.{Contents, SameContents, IsBehind}
@@ -19,6 +19,6 @@ if_both_read contents between before now model point model_text point_text (Ok r
   one = inl worked;
   says = λ _ all_model all_point told_model told_point.
       subst (λ (t : List ℕ). TestSays model point all_model t reply.status reply.text) (is_point all_point (same point ∙ told_point))
-          (subst (λ (t : List ℕ). TestSays model point t point_text reply.status reply.text) (is_model all_model told_model) says);
+      (subst (λ (t : List ℕ). TestSays model point t point_text reply.status reply.text) (is_model all_model told_model) says);
   fault = λ is. absurd (subst IsWorked is worked);
 }
