@@ -2,7 +2,6 @@
 
 ghost use Rattle.std.specs.Prelude.{◌≡◌, true, None};
 ghost use Rattle.fractions.specs.Memory.{Acts};
-ghost use Rattle.block_tree.specs.Scaling.{are_whole};
 ghost use Rattle.block_tree.specs.Building.{
     new_building, var_outcome, row_outcome, rows_so_far, refusal_of_finish as finish_refusal, built_model, closed_block, goal_of,
 };
@@ -133,8 +132,7 @@ impl Parts {
         right: Frac,
         mark: u32,
     ) -> Result<(), BuildError>
-        requires whole { are_whole terms.now right ≡ true }
-        requires counted { self.old.row_total ≡ rows_so_far (building_of self.old) }
+        requires { self.old.row_total ≡ rows_so_far (building_of self.old) }
         ensures acts {
             Acts BuildError.Memory (building_of self.old) (row_outcome terms.now rel right mark (building_of self.old)) result
             (building_of self.new)
