@@ -1,5 +1,5 @@
 -- The least scale of fractions is the least common multiple of their denominators.
-use Rattle.std.proofs.Common.{◌≡◌, ◌≢◌, ◌⊎◌, inl, inr, ℕ, zero, suc, ◌+◌, ◌*◌, ◌/◌, ◌%◌, ◌≤◌, ◌<◌, ◌^◌, Bool, true, false, not, ◌&&◌, ◌||◌, List, [], ◌∷◌, map, refl, sym, ap, ◌∙◌, subst, arith, rules, nat_eq, nat_lt, nat_le, ℤ, pos, ◌*ℤ◌, unsigned_abs, negsuc, ◌<ℤ◌, FitsSigned, Option, Some, None, length, get_or, drop, add-one, drop-cons, if◌then◌else◌}
+use Rattle.std.proofs.Common.{◌≡◌, ◌≢◌, ◌⊎◌, inl, inr, ℕ, zero, suc, ◌+◌, ◌*◌, ◌/◌, ◌%◌, ◌≤◌, ◌<◌, ◌^◌, Bool, true, false, not, ◌&&◌, ◌||◌, List, [], ◌∷◌, map, refl, sym, ap, ◌∙◌, subst, arith, rules, nat_eq, nat_lt, nat_le, ℤ, pos, ◌*ℤ◌, unsigned_abs, negsuc, ◌<ℤ◌, FitsSigned, Option, Some, None, Result, Ok, Err, length, get_or, drop, add-one, drop-cons, if◌then◌else◌}
 use Prim.Native.Nat.{◌∣◌}
 use mir.Syntax.{w128}
 use Rattle.std.specs.List.{list_all, list_any}
@@ -10,8 +10,10 @@ use Rattle.std.proofs.lemmas.Nat.Gcd.{dvd_refl, dvd_trans, dvd_antisymm, le_of_d
 use Rattle.std.proofs.Math.Nat.{dvd-mul_left, dvd-mul_right}
 use Rattle.fractions.specs.Divisors.{IsLcm}
 use Rattle.fractions.specs.Fraction.{Fraction}
-use Rattle.lp_rows.specs.Rows.{is_storable, has_zero, are_storable}
-use Rattle.block_tree.specs.declared.errors.BuildError.TheVariants.{Number}
+use Rattle.lp_rows.specs.Rows.{is_storable, has_zero, are_storable, ascends_from, row_refusal}
+use Rattle.fractions.specs.Memory.{refuse_if, refused_or}
+use Rattle.block_tree.specs.declared.errors.BuildError.{BuildError}
+use Rattle.block_tree.specs.declared.errors.BuildError.TheVariants.{Number, NameTwice, NameUnknown}
 use Rattle.block_tree.specs.Building.{has_small_parts, are_ids_below, are_numbers, refusal_of_terms}
 use Rattle.block_tree.specs.Scaling.{is_multiple, all_divide, least_multiple_from, product_of, least_scale, are_positive, denominators, scale_of, scaled, scaled_terms, has_id_twice, insert_term, sorted_among, sorted_terms, stored_terms}
 use Rattle.block_tree.proofs.Keeping.{both, and_true}
@@ -292,3 +294,36 @@ with_number d ds h k = and_true (nat_lt 0 d) (are_positive ds) (above d h) k
 pub refused_number : (n : ℕ) (ts : List (ℕ × Fraction)) (f : Fraction) → has_id_twice ts ≡ false → are_ids_below n ts ≡ true
     → are_numbers (scale_of ts f) ts f ≡ false → refusal_of_terms n ts f None ≡ Some Number
 refused_number n ts f a b c = rw (a, b, c)
+
+-- what stands below the causes of terms decides where none of them holds, and only there
+pub passes_below : {A : Type 0} (n : ℕ) (ts : List (ℕ × Fraction)) (f : Fraction) (below : Option BuildError) (v w : A)
+    → Ok w ≡ refused_or (refusal_of_terms n ts f None) v → refusal_of_terms n ts f below ≡ below
+passes_below n ts f below v w h = by_tests (has_id_twice ts) (not (are_ids_below n ts)) (not (are_numbers (scale_of ts f) ts f)) h
+  where
+    by_tests : (a b c : Bool) → Ok w ≡ refused_or (refuse_if a NameTwice (refuse_if b NameUnknown (refuse_if c Number None))) v
+        → refuse_if a NameTwice (refuse_if b NameUnknown (refuse_if c Number below)) ≡ below
+    by_tests true b c q = cc
+    by_tests false true c q = cc
+    by_tests false false true q = cc
+    by_tests false false false q = refl
+
+pub refused_above : {A : Type 0} (n : ℕ) (ts : List (ℕ × Fraction)) (f : Fraction) (below : Option BuildError) (v : A) (e : BuildError)
+    → Err e ≡ refused_or (refusal_of_terms n ts f None) v → refusal_of_terms n ts f below ≡ Some e
+refused_above n ts f below v e h = by_tests (has_id_twice ts) (not (are_ids_below n ts)) (not (are_numbers (scale_of ts f) ts f)) h
+  where
+    by_tests : (a b c : Bool) → Err e ≡ refused_or (refuse_if a NameTwice (refuse_if b NameUnknown (refuse_if c Number None))) v
+        → refuse_if a NameTwice (refuse_if b NameUnknown (refuse_if c Number below)) ≡ Some e
+    by_tests true b c q = cc
+    by_tests false true c q = cc
+    by_tests false false true q = cc
+    by_tests false false false q = cc
+
+-- stored terms and a stored number make a row
+ascends_scaled : (k least : ℕ) (ts : List (ℕ × Fraction)) → ascends_from least (scaled_terms k ts) ≡ ascends_from least ts
+ascends_scaled k least [] = refl
+ascends_scaled k least (t ∷ ts) = ap (λ b. nat_le least t.0 && b) (ascends_scaled k (suc t.0) ts)
+
+pub row_made_of : (k : ℕ) (sorted : List (ℕ × Fraction)) (terms : List (ℕ × ℤ)) (number : ℤ) → ascends_from 0 sorted ≡ true → terms ≡ scaled_terms k sorted
+    → has_zero terms ≡ false → are_storable terms ≡ true → is_storable number ≡ true → row_refusal terms number ≡ None
+row_made_of k sorted terms number a e z s n =
+    let o : ascends_from 0 terms ≡ true = ap (λ (l : List (ℕ × ℤ)). ascends_from 0 l) e ∙ ascends_scaled k 0 sorted ∙ a in rw (o, z, s, n)
