@@ -1,9 +1,11 @@
 -- What a builder stands for.
-use Rattle.std.specs.Prelude.{ℕ, List, map, reverse, Option, None, Some}
+use Rattle.std.specs.Prelude.{ℕ, pos, List, map, reverse, Option, None, Some}
 use Rattle.block_tree.specs.declared.parts.Level.{Level}
 use Rattle.block_tree.specs.declared.parts.Opened.{Opened}
 use Rattle.block_tree.specs.declared.parts.Goal.{Goal}
 use Rattle.block_tree.specs.declared.parts.Parts.{Parts}
+use Rattle.lp_rows.specs.declared.kinds.Sense.{Sense}
+use Rattle.block_tree.specs.declared.scaling.Stored.{Stored}
 use Rattle.block_tree.specs.Building.{OpenBlock, OpenDisjunction, BuildingValue}
 use Rattle.block_tree.specs.Values.{GoalValue}
 use Rattle.block_tree.specs.View.{disjunct_of, disjunction_of}
@@ -20,6 +22,11 @@ opened_of (Some d) = Some (open_disjunction_of d)
 
 abbrev pub goal_value_of : Goal → GoalValue
 goal_value_of g = record { sense = g.sense; terms = g.terms; constant = g.constant; scale = g.scale; mark = g.mark }
+
+-- the goal that is made of stored numbers
+abbrev pub goal_made : Sense → ℕ → Stored → Goal
+goal_made sense mark stored =
+    record { sense = sense; terms = stored.terms; constant = stored.number; scale = pos stored.scale; mark = mark }
 
 abbrev pub given_goal : Option Goal → Option GoalValue
 given_goal None = None

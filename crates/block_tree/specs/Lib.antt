@@ -2,6 +2,7 @@ pub mod Builders
 pub mod Building
 pub mod Variables
 pub mod Names
+pub mod Numbers
 pub mod Nesting
 pub mod Satisfied
 pub mod Scaling

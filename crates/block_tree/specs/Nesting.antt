@@ -25,12 +25,15 @@ abbrev pub boolean_outcome : List ℕ → ℕ → BuildingValue → Result ℕ B
 boolean_outcome name mark b =
     unless (refusal_of_boolean name b) b (length b.booleans) (record b { booleans = b.booleans ++ (name, mark) ∷ [] })
 
--- why a goal is refused: its scale is stored, and so is small
+-- why the scale of a goal is refused: it is stored too
+abbrev pub refusal_of_scale : List (ℕ × Fraction) → Fraction → Option BuildError
+refusal_of_scale terms constant = refuse_if (not (is_storable (pos (scale_of terms constant)))) Number None
+
+-- why a goal is refused
 abbrev pub refusal_of_goal : List (ℕ × Fraction) → Fraction → BuildingValue → Option BuildError
 refusal_of_goal terms constant b =
     refuse_if (not (is_at_root b) || is_some b.goal) Place
-    (refusal_of_terms (length b.vars) terms constant
-    (refuse_if (not (is_storable (pos (scale_of terms constant)))) Number None))
+    (refusal_of_terms (length b.vars) terms constant (refusal_of_scale terms constant))
 
 -- the goal that is stored: scaled, its terms in the order of their ids
 abbrev pub stored_goal : Sense → List (ℕ × Fraction) → Fraction → ℕ → GoalValue

@@ -1,5 +1,5 @@
 -- Rows and goals of fractions, multiplied by the least positive whole number that makes them whole.
-use Rattle.std.specs.Prelude.{ℕ, zero, suc, ◌*◌, ◌/◌, ◌%◌, ℤ, pos, ◌*ℤ◌, Bool, true, false, ◌&&◌, ◌||◌, List, [], ◌∷◌, map, unsigned_abs, if◌then◌else◌, nat_lt, ◌==◌, nat_eq}
+use Rattle.std.specs.Prelude.{ℕ, zero, suc, ◌*◌, ◌/◌, ◌%◌, ℤ, pos, ◌*ℤ◌, Bool, true, false, ◌&&◌, ◌||◌, List, [], ◌∷◌, map, unsigned_abs, if◌then◌else◌, nat_lt, ◌==◌}
 use Rattle.std.specs.List.{list_all, list_any}
 use Rattle.fractions.specs.Fraction.{Fraction}
 
@@ -7,11 +7,14 @@ use Rattle.fractions.specs.Fraction.{Fraction}
 abbrev pub is_multiple : ℕ → ℕ → Bool
 is_multiple d k = k % d == 0
 
--- the least of k, k + 1, .. that each of these divides, where one of the next n is
+-- each of these divides k
+abbrev pub all_divide : List ℕ → ℕ → Bool
+all_divide ds k = list_all (λ d. is_multiple d k) ds
+
+-- the least of k, k + 1, .., k + n that each of these divides
 unfoldable pub least_multiple_from : ℕ → ℕ → List ℕ → ℕ
 least_multiple_from zero k ds = k
-least_multiple_from (suc n) k ds =
-    if list_all (λ d. is_multiple d k) ds then k else least_multiple_from n (suc k) ds
+least_multiple_from (suc n) k ds = if all_divide ds k then k else least_multiple_from n (suc k) ds
 
 -- the product of these
 unfoldable pub product_of : List ℕ → ℕ
@@ -25,6 +28,10 @@ least_scale ds = least_multiple_from (product_of ds) 1 ds
 -- the denominators of terms
 abbrev pub denominators : List (ℕ × Fraction) → List ℕ
 denominators ts = map (λ t. unsigned_abs t.1.den) ts
+
+-- each of these is positive
+abbrev pub are_positive : List ℕ → Bool
+are_positive ds = list_all (λ d. nat_lt 0 d) ds
 
 -- the least positive whole number that makes the terms and this number whole
 abbrev pub scale_of : List (ℕ × Fraction) → Fraction → ℕ
@@ -69,7 +76,3 @@ first_above id (t ∷ ts) = if nat_lt id t.0 then 0 else suc (first_above id ts)
 -- the terms that are stored: times the whole number k, in the order of their ids
 abbrev pub stored_terms : ℕ → List (ℕ × Fraction) → List (ℕ × ℤ)
 stored_terms k ts = scaled_terms k (sorted_terms ts)
-
--- each fraction is whole
-abbrev pub are_whole : List (ℕ × Fraction) → Fraction → Bool
-are_whole ts number = list_all (λ t. nat_eq (unsigned_abs t.1.den) 1) ts && nat_eq (unsigned_abs number.den) 1

@@ -5,7 +5,6 @@ ghost use Rattle.std.specs.Str.{bytes_eq};
 ghost use Rattle.fractions.specs.Memory.{Acts};
 ghost use Rattle.block_tree.specs.Builders.{building_of};
 ghost use Rattle.block_tree.specs.Building.{rows_so_far, new_building, var_outcome, row_outcome, finish_outcome};
-ghost use Rattle.block_tree.specs.Scaling.{are_whole};
 ghost use Rattle.block_tree.specs.Sound.{IsWhole};
 ghost use Rattle.block_tree.specs.Values.{model_tree};
 
@@ -73,7 +72,6 @@ impl ModelBuilder {
         right: Frac,
         mark: u32,
     ) -> Result<(), BuildError>
-        requires { are_whole terms.now right ≡ true }
         ensures {
             Acts BuildError.Memory (stands_for self.old) (row_outcome terms.now rel right mark (stands_for self.old)) result
             (stands_for self.new)
