@@ -18,7 +18,7 @@ DEFINED = re.compile(r"\s*(?:abbrev |unfoldable |mutual )*pub (?:record |data |a
 def crates():
     """The crates, lowest first, as crates.txt lists them."""
     lines = [line.split("#")[0] for line in (ROOT / "crates.txt").read_text().splitlines()]
-    return [line.split(":")[0].split()[0] for line in lines if ":" in line]
+    return list(dict.fromkeys(line.split(":")[0].split()[0] for line in lines if ":" in line))
 
 
 def definitions(text):
