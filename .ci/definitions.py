@@ -58,7 +58,8 @@ def page():
         for path in files:
             title, groups = definitions(path.read_text())
             lines += ["", f"**`{crate}/specs/{path.name}`**: {sentence(title)}", ""]
-            lines += [f"- {', '.join(f'`{name}`' for name in names)}: {sentence(words)}" for names, words in groups]
+            # A first definition without words of its own is what the file's title says.
+            lines += [f"- {', '.join(f'`{name}`' for name in names)}: {sentence(words or title)}" for names, words in groups]
     return "\n".join(lines) + "\n"
 
 
