@@ -29,56 +29,6 @@ pub none_before : {X : Type 0} (r : Result (List X) ReadCause) → with_terms []
 none_before (Ok xs) = refl
 none_before (Err c) = refl
 
--- what is read so far is whole: its denominators are 1
-value_whole : (is_negative : Bool) (n : Numeral) (f : Fraction) → value_of is_negative n ≡ Some f → f.den ≡ pos 1
-value_whole is_negative (Whole digits) f e = go (in_range (decimal 0 digits)) e
-  where
-    go : (o : Option ℕ) → whole_value is_negative o ≡ Some f → f.den ≡ pos 1
-    go None e = absurd (cc e)
-    go (Some size) e = let same : signed_whole is_negative size ≡ f = cc e in ap (λ (x : Fraction). x.den) (sym same)
-value_whole is_negative (Over a b) f e = absurd (cc e)
-value_whole is_negative (Places a b) f e = absurd (cc e)
-
-one_test : (f : Fraction) → f.den ≡ pos 1 → nat_eq (unsigned_abs f.den) 1 ≡ true
-one_test f e = ap (λ (d : ℤ). nat_eq (unsigned_abs d) 1) e
-
-pub value_is_whole : (is_negative : Bool) (n : Numeral) (f : Fraction) → value_of is_negative n ≡ Some f → nat_eq (unsigned_abs f.den) 1 ≡ true
-value_is_whole is_negative n f e = one_test f (value_whole is_negative n f e)
-
-coefficient_is_whole : (is_negative : Bool) (size : Option Numeral) (f : Fraction) → coefficient is_negative size ≡ Some f → nat_eq (unsigned_abs f.den) 1 ≡ true
-coefficient_is_whole is_negative None f e = let same : signed_whole is_negative 1 ≡ f = cc e in one_test f (ap (λ (x : Fraction). x.den) (sym same))
-coefficient_is_whole is_negative (Some n) f e = value_is_whole is_negative n f e
-
-is_whole : ℕ × Fraction → Bool
-is_whole t = nat_eq (unsigned_abs t.1.den) 1
-
-whole_more : (id : ℕ) (s : Summand) (o : Option Fraction) (r : Result (List (ℕ × Fraction)) ReadCause) (vs : List (ℕ × Fraction))
-    → coefficient_of s ≡ o → ((others : List (ℕ × Fraction)) → r ≡ Ok others → list_all is_whole others ≡ true)
-    → (or_cause cause.Number o >>= λ f. (r >>= λ others. Ok ((id, f) ∷ others))) ≡ Ok vs → list_all is_whole vs ≡ true
-unfolding is_whole
-whole_more id s None r vs p below e = absurd (cc e)
-whole_more id s (Some f) (Err c) vs p below e = absurd (cc e)
-whole_more id s (Some f) (Ok others) vs p below e =
-    let term : ℕ × Fraction = (id, f) in
-    let same : term ∷ others ≡ vs = cc e in
-    ap (λ (xs : List (ℕ × Fraction)). list_all is_whole xs) (sym same)
-      ∙ ap (λ b. b && list_all is_whole others) (coefficient_is_whole s.is_negative s.size f p) ∙ below others refl
-
-pub valued_are_whole : (ts : List (ℕ × Summand)) (vs : List (ℕ × Fraction)) → valued_terms ts ≡ Ok vs → list_all (λ t. nat_eq (unsigned_abs t.1.den) 1) vs ≡ true
-unfolding is_whole
-valued_are_whole [] vs e = let none : [] ≡ vs = cc e in ap (λ (xs : List (ℕ × Fraction)). list_all is_whole xs) (sym none)
-valued_are_whole (t ∷ ts) vs e = whole_more t.0 t.1 (coefficient_of t.1) (valued_terms ts) vs refl (valued_are_whole ts) e
-
--- the terms that a row takes are whole, and so is its right side
-pub row_is_whole : (ts : List (ℕ × Summand)) (vs stored : List (ℕ × Fraction)) (is_negative : Bool) (n : Numeral) (f : Fraction)
-    → valued_terms ts ≡ Ok vs → stored ≡ vs → Some f ≡ value_of is_negative n
-    → (list_all (λ t. nat_eq (unsigned_abs t.1.den) 1) stored && nat_eq (unsigned_abs f.den) 1) ≡ true
-unfolding is_whole
-row_is_whole ts vs stored is_negative n f read same value =
-    ap (λ (xs : List (ℕ × Fraction)). list_all is_whole xs && nat_eq (unsigned_abs f.den) 1) same
-      ∙ ap (λ b. b && nat_eq (unsigned_abs f.den) 1) (valued_are_whole ts vs read)
-      ∙ value_is_whole is_negative n f (sym value)
-
 -- what a place past the end of a sum reads as
 abbrev pub no_term : Term
 no_term = record { is_negative = false; size = None; name = record { ref_ptr = (0, 0); now = [] } }

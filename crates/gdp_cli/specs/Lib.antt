@@ -5,7 +5,6 @@ pub mod Gives
 pub mod Lines
 pub mod Messages
 pub mod Replies
-pub mod StandIn
 pub mod Statuses
 pub mod Streams
 pub mod Table

@@ -11,7 +11,6 @@
 mod messages;
 mod reader;
 mod run;
-mod stand_in;
 mod status;
 mod streams;
 mod test_command;

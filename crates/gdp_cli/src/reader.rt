@@ -96,6 +96,8 @@ pub fn read_model(alloc: Global, text: &[u8]) -> Result<Model, ReadError>
 /// Reads a point text of the model.
 pub fn read_point(alloc: Global, model: &Model, text: &[u8]) -> Result<ModelPoint, ReadError>
     ensures found { IfOk result (λ point. SpellsPoint (model_tree model.now) text.now point.at point.truths) }
+    ensures numbers { IfOk result (λ point. length point.at.nums ≡ length model.now.vars) }
+    ensures truths { IfOk result (λ point. length point.truths ≡ length model.now.booleans) }
     ensures refused { IsErrOf result ReadError.NotBuilt → (at : PointValue) (truths : List Bool) → SpellsPoint (model_tree model.now) text.now at truths → ⊥ }
 {
     let numbers = read_numbers(alloc, model.vars(), text)?;

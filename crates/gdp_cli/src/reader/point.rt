@@ -1,6 +1,6 @@
 //! Reads point texts.
 
-ghost use Rattle.std.specs.Prelude.{◌≡◌, [], map, Some, None, IfOk, IsErrOf, if◌then◌else◌};
+ghost use Rattle.std.specs.Prelude.{◌≡◌, [], length, map, Some, None, IfOk, IsErrOf, if◌then◌else◌};
 ghost use Rattle.gdp_grammar.specs.Lines.{lines_of};
 ghost use Rattle.gdp_grammar.specs.Points.{value_in, numbers_in, point_numbers};
 ghost use Rattle.gdp_grammar.specs.Words.{words_of};
@@ -50,6 +50,7 @@ fn read_values(
     text: &[u8],
 ) -> Result<Vec<i128>, ReadError>
     ensures read { IfOk result (λ numbers. numbers_in (map (λ v. v.0) vars.now) (lines_of text.now) ≡ Some numbers.items) }
+    ensures sized { IfOk result (λ numbers. length numbers.items ≡ length vars.now) }
     ensures refused { IsErrOf result ReadError.NotBuilt → numbers_in (map (λ v. v.0) vars.now) (lines_of text.now) ≡ None }
 {
     let mut numbers = Vec::new(alloc);
@@ -78,6 +79,7 @@ pub fn read_numbers(
     text: &[u8],
 ) -> Result<Vec<i128>, ReadError>
     ensures read { IfOk result (λ numbers. point_numbers (map (λ v. v.0) vars.now) (lines_of text.now) ≡ Some numbers.items) }
+    ensures sized { IfOk result (λ numbers. length numbers.items ≡ length vars.now) }
     ensures refused { IsErrOf result ReadError.NotBuilt → point_numbers (map (λ v. v.0) vars.now) (lines_of text.now) ≡ None }
 {
     if text.is_empty() {
