@@ -95,8 +95,8 @@ names_middle n (x ∷ xs) ys i h a =
     let r = both (is_name x) (not (has_name x (xs ++ ys))) q.0 in
     let k = has_middle x n xs ys (not_true (has_name x (xs ++ ys)) r.1) (bytes_eq_swap x n ∙ p.0) in
     and_true (is_name x && not (has_name x (xs ++ n ∷ ys))) (are_names (xs ++ n ∷ ys))
-      (and_true (is_name x) (not (has_name x (xs ++ n ∷ ys))) r.0 (is_not (has_name x (xs ++ n ∷ ys)) k))
-      (names_middle n xs ys i p.1 q.1)
+    (and_true (is_name x) (not (has_name x (xs ++ n ∷ ys))) r.0 (is_not (has_name x (xs ++ n ∷ ys)) k))
+    (names_middle n xs ys i p.1 q.1)
 
 -- rows: with more variables they name variables still
 
@@ -148,16 +148,16 @@ around_more n (o ∷ os) h =
     let p = both (is_open_below n o.0 && are_disjuncts_below n (disjuncts o.1.closed)) (are_around_below n os) h in
     let q = both (is_open_below n o.0) (are_disjuncts_below n (disjuncts o.1.closed)) p.0 in
     and_true (is_open_below (n + 1) o.0 && are_disjuncts_below (n + 1) (disjuncts o.1.closed)) (are_around_below (n + 1) os)
-      (and_true (is_open_below (n + 1) o.0) (are_disjuncts_below (n + 1) (disjuncts o.1.closed)) (open_more n o.0 q.0) (disjuncts_more n (disjuncts o.1.closed) q.1))
-      (around_more n os p.1)
+    (and_true (is_open_below (n + 1) o.0) (are_disjuncts_below (n + 1) (disjuncts o.1.closed)) (open_more n o.0 q.0) (disjuncts_more n (disjuncts o.1.closed) q.1))
+    (around_more n os p.1)
 
 building_more : (n : ℕ) (b : BuildingValue) → is_building_below n b ≡ true → is_building_below (n + 1) b ≡ true
 building_more n b h =
     let p = both (is_open_below n b.inner && is_opened_below n b.opened) (are_around_below n b.outer) h in
     let q = both (is_open_below n b.inner) (is_opened_below n b.opened) p.0 in
     and_true (is_open_below (n + 1) b.inner && is_opened_below (n + 1) b.opened) (are_around_below (n + 1) b.outer)
-      (and_true (is_open_below (n + 1) b.inner) (is_opened_below (n + 1) b.opened) (open_more n b.inner q.0) (opened_more n b.opened q.1))
-      (around_more n b.outer p.1)
+    (and_true (is_open_below (n + 1) b.inner) (is_opened_below (n + 1) b.opened) (open_more n b.inner q.0) (opened_more n b.opened q.1))
+    (around_more n b.outer p.1)
 
 -- a variable
 
@@ -178,9 +178,9 @@ var_keeps_whole name kind bound mark b w =
       few_booleans = w.few_booleans;
       few_rows = w.few_rows;
       names = rw (map-append (λ v. v.0) b.vars ((name, kind, bound, mark) ∷ []))
-        (rw (append_one (map (λ v. v.0) b.vars) name (map (λ v. v.0) b.booleans))
-        (names_middle name (map (λ v. v.0) b.vars) (map (λ v. v.0) b.booleans) (not_false (is_name name) t.1) f w.names));
-      rows = rw (length-append b.vars ((name, kind, bound, mark) ∷ [])) (building_more (length b.vars) b w.rows)
+          (rw (append_one (map (λ v. v.0) b.vars) name (map (λ v. v.0) b.booleans))
+          (names_middle name (map (λ v. v.0) b.vars) (map (λ v. v.0) b.booleans) (not_false (is_name name) t.1) f w.names));
+      rows = rw (length-append b.vars ((name, kind, bound, mark) ∷ [])) (building_more (length b.vars) b w.rows);
     })
   where
     append_one : {A : Type 0} (xs : List A) (y : A) (ys : List A) → (xs ++ y ∷ []) ++ ys ≡ xs ++ y ∷ ys
@@ -225,23 +225,23 @@ row_keeps_whole terms rel right mark b w =
     let s = refuses_not (not (are_numbers k terms right)) Number limit r.1 in
     let t = refuses_not (nat_le 1000 (rows_so_far b)) Limit None s.1 in
     let ids : ids_below (length b.vars) row.terms ≡ true =
-        ids_scaled (length b.vars) k (sorted_terms terms) ∙ ids_sorted (length b.vars) [] terms refl (not_false (are_ids_below (length b.vars) terms) r.0) in
+    ids_scaled (length b.vars) k (sorted_terms terms) ∙ ids_sorted (length b.vars) [] terms refl (not_false (are_ids_below (length b.vars) terms) r.0) in
     let e : length (b.inner.rows ++ (row, mark) ∷ []) ≡ length b.inner.rows + 1 = length-append b.inner.rows ((row, mark) ∷ []) in
     let m = below_limit 1000 (rows_so_far b) t.0 in
     let u = both (is_open_below (length b.vars) b.inner && is_opened_below (length b.vars) b.opened) (are_around_below (length b.vars) b.outer) w.rows in
     let v = both (is_open_below (length b.vars) b.inner) (is_opened_below (length b.vars) b.opened) u.0 in
     let x = both (are_rows_below (length b.vars) b.inner.rows) (are_disjunctions_below (length b.vars) (disjunctions b.inner.closed)) v.0 in
     let y : are_rows_below (length b.vars) (b.inner.rows ++ (row, mark) ∷ []) ≡ true =
-        all_append (λ a. ids_below (length b.vars) a.0.terms) b.inner.rows ((row, mark) ∷ []) x.0 (and_true (ids_below (length b.vars) row.terms) true ids refl) in
+    all_append (λ a. ids_below (length b.vars) a.0.terms) b.inner.rows ((row, mark) ∷ []) x.0 (and_true (ids_below (length b.vars) row.terms) true ids refl) in
     record {
       few_variables = w.few_variables;
       few_booleans = w.few_booleans;
       few_rows = omega (arith, e, m);
       names = w.names;
       rows = and_true (is_open_below (length b.vars) next.inner && is_opened_below (length b.vars) b.opened) (are_around_below (length b.vars) b.outer)
-        (and_true (is_open_below (length b.vars) next.inner) (is_opened_below (length b.vars) b.opened)
+          (and_true (is_open_below (length b.vars) next.inner) (is_opened_below (length b.vars) b.opened)
           (and_true (are_rows_below (length b.vars) next.inner.rows) (are_disjunctions_below (length b.vars) (disjunctions b.inner.closed)) y x.1) v.1)
-        u.1
+          u.1;
     })
 
 -- the builder that is new, and the model that is made
@@ -261,7 +261,7 @@ built_is_sound b w h =
       few_booleans = w.few_booleans;
       few_rows = omega (arith, w.few_rows);
       names = w.names;
-      rows = v.0
+      rows = v.0;
     }
 
 pub var_keeps_rows : (name : List ℕ) (kind : Kind) (bound : Bound) (mark : ℕ) (b : BuildingValue) → rows_so_far (var_outcome name kind bound mark b).1 ≡ rows_so_far b

@@ -52,10 +52,8 @@ impl ModelBuilder {
         bound: Bound,
         mark: u32,
     ) -> Result<u32, BuildError>
-        ensures {
-            Acts BuildError.Memory (stands_for self.old) (var_outcome name.now kind bound mark (stands_for self.old)) result
-            (stands_for self.new)
-        }
+        ensures { Acts BuildError.Memory (stands_for self.old) (var_outcome name.now kind bound mark (stands_for self.old)) result
+            (stands_for self.new) }
     {
         self.parts.var(alloc, name, kind, bound, mark)
     }
@@ -72,10 +70,8 @@ impl ModelBuilder {
         right: Frac,
         mark: u32,
     ) -> Result<(), BuildError>
-        ensures {
-            Acts BuildError.Memory (stands_for self.old) (row_outcome terms.now rel right mark (stands_for self.old)) result
-            (stands_for self.new)
-        }
+        ensures { Acts BuildError.Memory (stands_for self.old) (row_outcome terms.now rel right mark (stands_for self.old)) result
+            (stands_for self.new) }
     {
         self.parts.row(alloc, terms, rel, right, mark)
     }

@@ -22,8 +22,8 @@ run_none t steps events = record { moves = []; path = refl; steps_taken = omega 
 
 pub run_more : (from mid to : Table) (steps left less : ℕ) (events : List Event) (log next : LogOf) → HasRun from mid steps left events log.events → HasTurned mid to left less log next → HasRun from to steps less events next.events
 run_more from mid to steps left less events log next r t = record {
-    moves = r.moves ++ t.pair ∷ [];
-    path = path_more from mid to r.moves t.pair r.path t.moved;
-    steps_taken = let a = r.steps_taken in let b = t.step_taken in let c = length-append r.moves (t.pair ∷ []) in omega arith;
-    events = t.event ∙ ap (λ es. es ++ logged t.pair ∷ []) r.events ∙ append_assoc events (map logged r.moves) (logged t.pair ∷ []) ∙ ap (λ es. events ++ es) (sym (map_more r.moves t.pair));
+  moves = r.moves ++ t.pair ∷ [];
+  path = path_more from mid to r.moves t.pair r.path t.moved;
+  steps_taken = let a = r.steps_taken in let b = t.step_taken in let c = length-append r.moves (t.pair ∷ []) in omega arith;
+  events = t.event ∙ ap (λ es. es ++ logged t.pair ∷ []) r.events ∙ append_assoc events (map logged r.moves) (logged t.pair ∷ []) ∙ ap (λ es. events ++ es) (sym (map_more r.moves t.pair));
 }

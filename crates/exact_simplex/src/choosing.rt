@@ -102,7 +102,13 @@ fn better_negative(rows: &[Row], column: usize, best: Option<usize>, i: usize) -
 
 // Of the rows with a positive entry in this column, the one with the least ratio of right side to entry, and of
 // equal ones that with the lesser basic column.
-pub(crate) fn least_ratio(rows: &[Row], basis: &[usize], height: usize, right: usize, column: usize) -> Option<usize>
+pub(crate) fn least_ratio(
+    rows: &[Row],
+    basis: &[usize],
+    height: usize,
+    right: usize,
+    column: usize,
+) -> Option<usize>
     requires height { height ≤ length rows.now }
     requires basis { height ≤ length basis.now }
     requires columns { (i : ℕ) → i < length rows.now → column < length (slice_index_or rows.now i []) }
@@ -117,7 +123,14 @@ pub(crate) fn least_ratio(rows: &[Row], basis: &[usize], height: usize, right: u
     best
 }
 
-fn better_ratio(rows: &[Row], basis: &[usize], right: usize, column: usize, best: Option<usize>, i: usize) -> Option<usize>
+fn better_ratio(
+    rows: &[Row],
+    basis: &[usize],
+    right: usize,
+    column: usize,
+    best: Option<usize>,
+    i: usize,
+) -> Option<usize>
     requires row { i < length rows.now }
     requires basis { i < length basis.now }
     requires columns { (k : ℕ) → k < length rows.now → column < length (slice_index_or rows.now k []) }
@@ -135,7 +148,14 @@ fn better_ratio(rows: &[Row], basis: &[usize], right: usize, column: usize, best
     match best {
         None => Some(i),
         Some(k) => {
-            if goes_first(number(rows, i, right), entry, basis[i], number(rows, k, right), number(rows, k, column), basis[k]) {
+            if goes_first(
+                number(rows, i, right),
+                entry,
+                basis[i],
+                number(rows, k, right),
+                number(rows, k, column),
+                basis[k],
+            ) {
                 Some(i)
             } else {
                 Some(k)
@@ -145,7 +165,14 @@ fn better_ratio(rows: &[Row], basis: &[usize], right: usize, column: usize, best
 }
 
 // Whether the first ratio is less, or equal with the lesser column.
-fn goes_first(right: i128, entry: i128, column: usize, other_right: i128, other_entry: i128, other_column: usize) -> bool
+fn goes_first(
+    right: i128,
+    entry: i128,
+    column: usize,
+    other_right: i128,
+    other_entry: i128,
+    other_column: usize,
+) -> bool
     requires entry { pos 0 <ℤ entry }
     requires other { pos 0 <ℤ other_entry }
     ensures { result ≡ by_ratio (int_cmp (right *ℤ other_entry) (other_right *ℤ entry)) (nat_lt column other_column) }

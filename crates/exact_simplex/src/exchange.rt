@@ -32,7 +32,14 @@ fn write_kept_pivot(spare: &mut Row, from: &Row, enter: usize, column: usize, dr
 
 /// Makes the entering column basic in this row, or names the row and column of the first number that isn't narrow,
 /// and then changes no row. Where the leaving column drops out, it counts as no column.
-pub(crate) fn exchange_rows(rows: &mut [Row], spare: &mut Row, row: usize, enter: usize, column: usize, drops: bool) -> Result<(), (usize, usize)>
+pub(crate) fn exchange_rows(
+    rows: &mut [Row],
+    spare: &mut Row,
+    row: usize,
+    enter: usize,
+    column: usize,
+    drops: bool,
+) -> Result<(), (usize, usize)>
     requires { IsReady (length spare.old) rows.old row enter column drops }
     ensures ok { OnOk result (IsExchange (length spare.old) (length rows.old) (kept drops column (matrix rows.old)) row enter (matrix rows.new)) }
     ensures narrow { OnOk result (IsNarrowExchange (length spare.old) (length rows.old) (kept drops column (matrix rows.old)) enter row) }

@@ -40,7 +40,7 @@ pub unknown_here : (vars : List VarValue) (terms : List (ℕ × Term)) (sum : Li
 unknown_here vars terms sum i whole within none goes =
     let rest : Result (List (ℕ × Summand)) ReadCause = known_terms vars (map summand (drop (i + 1) sum)) in
     sym goes ∙ ap (λ (ts : List Term). with_terms (map named_summand terms) (known_terms vars (map summand ts))) (drop_more sum i no_term within)
-      ∙ ap (λ (o : Option ℕ). with_terms (map named_summand terms) (or_cause cause.NameUnknown o >>= λ id. (rest >>= λ others. Ok ((id, summand (get_or sum i no_term)) ∷ others)))) (sym none)
+    ∙ ap (λ (o : Option ℕ). with_terms (map named_summand terms) (or_cause cause.NameUnknown o >>= λ id. (rest >>= λ others. Ok ((id, summand (get_or sum i no_term)) ∷ others)))) (sym none)
 
 -- a term with a known name
 pub known_here : (vars : List VarValue) (terms pushed : List (ℕ × Term)) (sum : List Term) (i id : ℕ) (whole : Result (List (ℕ × Summand)) ReadCause)
@@ -51,8 +51,8 @@ known_here vars terms pushed sum i id whole within some push goes =
     let rest : Result (List (ℕ × Summand)) ReadCause = known_terms vars (map summand (drop (i + 1) sum)) in
     let one : ℕ × Term = (id, get_or sum i no_term) in
     ap (λ (ts : List (ℕ × Term)). with_terms (map named_summand ts) rest) push
-      ∙ ap (λ (ts : List (ℕ × Summand)). with_terms ts rest) (map-append named_summand terms (one ∷ []))
-      ∙ sym (one_more (map named_summand terms) (named_summand one) rest)
-      ∙ ap (λ (o : Option ℕ). with_terms (map named_summand terms) (or_cause cause.NameUnknown o >>= λ id. (rest >>= λ others. Ok ((id, summand (get_or sum i no_term)) ∷ others)))) some
-      ∙ ap (λ (ts : List Term). with_terms (map named_summand terms) (known_terms vars (map summand ts))) (sym (drop_more sum i no_term within))
-      ∙ goes
+    ∙ ap (λ (ts : List (ℕ × Summand)). with_terms ts rest) (map-append named_summand terms (one ∷ []))
+    ∙ sym (one_more (map named_summand terms) (named_summand one) rest)
+    ∙ ap (λ (o : Option ℕ). with_terms (map named_summand terms) (or_cause cause.NameUnknown o >>= λ id. (rest >>= λ others. Ok ((id, summand (get_or sum i no_term)) ∷ others)))) some
+    ∙ ap (λ (ts : List Term). with_terms (map named_summand terms) (known_terms vars (map summand ts))) (sym (drop_more sum i no_term within))
+    ∙ goes

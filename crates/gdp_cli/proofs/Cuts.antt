@@ -19,15 +19,15 @@ cut_more class bytes end cut within holds =
     let b : ℕ = get_or bytes end 0 in
     let next : drop end bytes ≡ b ∷ drop (end + 1) bytes = drop_more bytes end 0 within in
     let f : front class (drop end bytes) ≡ b ∷ front class (drop (end + 1) bytes) =
-      ap (front class) next ∙ cond-true (belongs class b) _ _ holds in
+    ap (front class) next ∙ cond-true (belongs class b) _ _ holds in
     let r : rest class (drop end bytes) ≡ rest class (drop (end + 1) bytes) =
-      ap (rest class) next ∙ cond-true (belongs class b) _ _ holds in
+    ap (rest class) next ∙ cond-true (belongs class b) _ _ holds in
     record {
       within = omega (arith, within);
       front = cut.front ∙ ap (λ bs. take end bytes ++ bs) f
-        ∙ sym (append_assoc (take end bytes) (b ∷ []) (front class (drop (end + 1) bytes)))
-        ∙ ap (λ bs. bs ++ front class (drop (end + 1) bytes)) (sym (take_more bytes end 0 within));
-      rest = cut.rest ∙ r
+          ∙ sym (append_assoc (take end bytes) (b ∷ []) (front class (drop (end + 1) bytes)))
+          ∙ ap (λ bs. bs ++ front class (drop (end + 1) bytes)) (sym (take_more bytes end 0 within));
+      rest = cut.rest ∙ r;
     }
 
 -- The cut is the end of the class where the bytes end there, or the next one doesn't belong.

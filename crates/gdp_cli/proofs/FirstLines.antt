@@ -16,4 +16,4 @@ pub cut_line : (text line after cut : List ℕ) → line ≡ front class.Line te
 cut_line text line [] cut f r some w = absurd (omega (arith, some))
 cut_line text line (n ∷ after) cut f r some w =
     first_line text n after (sym r) ∙ ap (λ l. without_return l ∷ lines_of after) (sym f) ∙ ap (λ l. l ∷ lines_of after) (sym w)
-      ∙ ap (λ l. cut ∷ lines_of l) (sym (take_rest (n ∷ after) 1))
+    ∙ ap (λ l. cut ∷ lines_of l) (sym (take_rest (n ∷ after) 1))

@@ -31,19 +31,19 @@ or_false false = refl
 
 pub mark_one : (n : ℕ) (seen : List Bool) (ids : List (Option ℕ)) (id : ℕ) → IsMarked n seen ids → id < n → IsMarked n (set seen id true) (ids ++ Some id ∷ [])
 mark_one n seen ids id m within = record {
-    count = length-set seen id true ∙ m.count;
-    marks = λ k h. go k h (cases_eq k id)
-  }
+  count = length-set seen id true ∙ m.count;
+  marks = λ k h. go k h (cases_eq k id);
+}
   where
     go : (k : ℕ) → k < n → (k ≡ id) ⊎ (k ≢ id) → get_or (set seen id true) k false ≡ stands_in k (ids ++ Some id ∷ [])
     go k h (inl e) =
-      let same : eqb k id ≡ true = grind (arith, nat_tests) in
-      let bound : id < length seen = omega (arith, within, m.count) in
-      ap (λ (j : ℕ). get_or (set seen id true) j false) e ∙ get_or-set_same seen id true false bound
+        let same : eqb k id ≡ true = grind (arith, nat_tests) in
+        let bound : id < length seen = omega (arith, within, m.count) in
+        ap (λ (j : ℕ). get_or (set seen id true) j false) e ∙ get_or-set_same seen id true false bound
         ∙ sym (stands_push k id ids ∙ ap (λ b. stands_in k ids || b) same ∙ or_true (stands_in k ids))
     go k h (inr ne) =
-      let other : eqb k id ≡ false = grind (arith, nat_tests) in
-      get_or-set_other seen id k true false ne ∙ m.marks k h
+        let other : eqb k id ≡ false = grind (arith, nat_tests) in
+        get_or-set_other seen id k true false ne ∙ m.marks k h
         ∙ sym (stands_push k id ids ∙ ap (λ b. stands_in k ids || b) other ∙ or_false (stands_in k ids))
 
 -- the ids of the terms before this place
@@ -55,9 +55,9 @@ named_more : (vars : List VarValue) (sum : List Summand) (i : ℕ) (o : Option �
     → ids_before vars sum (i + 1) ≡ ids_before vars sum i ++ o ∷ []
 named_more vars sum i o within is =
     ap (λ (xs : List Summand). named vars (map summand xs)) (take_more sum i no_term within)
-      ∙ ap (named vars) (map-append summand (take i sum) (get_or sum i no_term ∷ []))
-      ∙ map-append (λ s. id_of vars s.name) (map summand (take i sum)) (summand (get_or sum i no_term) ∷ [])
-      ∙ ap (λ (x : Option ℕ). ids_before vars sum i ++ x ∷ []) (sym is)
+    ∙ ap (named vars) (map-append summand (take i sum) (get_or sum i no_term ∷ []))
+    ∙ map-append (λ s. id_of vars s.name) (map summand (take i sum)) (summand (get_or sum i no_term) ∷ [])
+    ∙ ap (λ (x : Option ℕ). ids_before vars sum i ++ x ∷ []) (sym is)
 
 -- a variable that is marked already
 pub twice_here : (n : ℕ) (seen : List Bool) (vars : List VarValue) (sum : List Summand) (i id : ℕ) (mark : Bool)
@@ -67,12 +67,12 @@ twice_here n seen vars sum i id mark m bound within is read marked =
     let in_seen : id < length seen = omega (arith, bound, m.count) in
     let stands : stands_in id (ids_before vars sum i) ≡ true = sym (m.marks id bound) ∙ get_or_default seen id false mark in_seen ∙ sym read ∙ marked in
     let now : has_twice (ids_before vars sum (i + 1)) ≡ true =
-      ap has_twice (named_more vars sum i (Some id) within is) ∙ twice_push id (ids_before vars sum i)
-        ∙ ap (λ b. has_twice (ids_before vars sum i) || b) stands ∙ or_true (has_twice (ids_before vars sum i)) in
+    ap has_twice (named_more vars sum i (Some id) within is) ∙ twice_push id (ids_before vars sum i)
+    ∙ ap (λ b. has_twice (ids_before vars sum i) || b) stands ∙ or_true (has_twice (ids_before vars sum i)) in
     let whole : named vars (map summand sum) ≡ ids_before vars sum (i + 1) ++ named vars (map summand (drop (i + 1) sum)) =
-      ap (λ (xs : List Summand). named vars (map summand xs)) (sym (take-append-drop (i + 1) sum))
-        ∙ ap (named vars) (map-append summand (take (i + 1) sum) (drop (i + 1) sum))
-        ∙ map-append (λ s. id_of vars s.name) (map summand (take (i + 1) sum)) (map summand (drop (i + 1) sum)) in
+    ap (λ (xs : List Summand). named vars (map summand xs)) (sym (take-append-drop (i + 1) sum))
+    ∙ ap (named vars) (map-append summand (take (i + 1) sum) (drop (i + 1) sum))
+    ∙ map-append (λ s. id_of vars s.name) (map summand (take (i + 1) sum)) (map summand (drop (i + 1) sum)) in
     sym (ap has_twice whole ∙ twice_more (ids_before vars sum (i + 1)) (named vars (map summand (drop (i + 1) sum))) now)
 
 -- a variable that is marked now
@@ -83,9 +83,10 @@ pub marked_here : (n : ℕ) (seen next : List Bool) (vars : List VarValue) (sum 
 marked_here n seen next vars sum i id mark m once bound within is read unmarked set_is =
     let in_seen : id < length seen = omega (arith, bound, m.count) in
     let stands : stands_in id (ids_before vars sum i) ≡ false = sym (m.marks id bound) ∙ get_or_default seen id false mark in_seen ∙ sym read ∙ unmarked in
-    let more : ids_before vars sum (i + 1) ≡ ids_before vars sum i ++ Some id ∷ [] = named_more vars sum i (Some id) within is in
-    (rw (more, set_is) (mark_one n seen (ids_before vars sum i) id m bound),
-     ap has_twice more ∙ twice_push id (ids_before vars sum i) ∙ ap (λ b. b || stands_in id (ids_before vars sum i)) once ∙ stands)
+    let more : ids_before vars sum (i + 1) ≡ ids_before vars sum i ++ Some id ∷ [] = named_more vars sum i (Some id) within is in (
+      rw (more, set_is) (mark_one n seen (ids_before vars sum i) id m bound),
+      ap has_twice more ∙ twice_push id (ids_before vars sum i) ∙ ap (λ b. b || stands_in id (ids_before vars sum i)) once ∙ stands,
+    )
 
 -- a name that is unknown
 pub unmarked_here : (n : ℕ) (seen next : List Bool) (vars : List VarValue) (sum : List Summand) (i : ℕ)
@@ -93,6 +94,7 @@ pub unmarked_here : (n : ℕ) (seen next : List Bool) (vars : List VarValue) (su
     → None ≡ id_of vars (get_or sum i no_term).name.now → next ≡ seen
     → IsMarked n next (ids_before vars sum (i + 1)) × (has_twice (ids_before vars sum (i + 1)) ≡ false)
 unmarked_here n seen next vars sum i m once within is same =
-    let more : ids_before vars sum (i + 1) ≡ ids_before vars sum i ++ None ∷ [] = named_more vars sum i None within is in
-    (rw (more, same) (mark_none n seen (ids_before vars sum i) m),
-     ap has_twice more ∙ twice_push_none (ids_before vars sum i) ∙ once)
+    let more : ids_before vars sum (i + 1) ≡ ids_before vars sum i ++ None ∷ [] = named_more vars sum i None within is in (
+      rw (more, same) (mark_none n seen (ids_before vars sum i) m),
+      ap has_twice more ∙ twice_push_none (ids_before vars sum i) ∙ once,
+    )

@@ -54,7 +54,7 @@ with_parts over nums truths = (record { over = over; nums = nums }, truths)
 point_same : (p p' : PointValue × List Bool) → p.0.over ≡ p'.0.over → p.0.nums ≡ p'.0.nums → p.1 ≡ p'.1 → p ≡ p'
 point_same p p' over nums truths =
     ap (λ (o : ℤ). with_parts o p.0.nums p.1) over ∙ ap (λ (n : List ℤ). with_parts p'.0.over n p.1) nums
-        ∙ ap (λ (t : List Bool). with_parts p'.0.over p'.0.nums t) truths
+    ∙ ap (λ (t : List Bool). with_parts p'.0.over p'.0.nums t) truths
 
 point_one : (m : ModelTree) (text : List ℕ) (p p' : PointValue × List Bool) → IsPoint m text p → IsPoint m text p' → p ≡ p'
 point_one m text p p' a b =
@@ -65,5 +65,5 @@ point_one m text p p' a b =
 pub one_test : (model point model_text point_text : List ℕ) → IsOne (TestSays model point model_text point_text)
 one_test model point model_text point_text =
     one_row _ _ _ _ (one_row _ _ _ _ (one_row _ _ _ _
-        (one_with _ _ (spells_one model_text) (λ m.
-            one_row _ _ _ _ (one_with _ _ (point_one m point_text) (λ p. one_verdict (verdict_of (tests_of m (point_of p.0 p.1)))))))))
+    (one_with _ _ (spells_one model_text) (λ m.
+    one_row _ _ _ _ (one_with _ _ (point_one m point_text) (λ p. one_verdict (verdict_of (tests_of m (point_of p.0 p.1)))))))))

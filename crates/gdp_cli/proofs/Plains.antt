@@ -39,6 +39,7 @@ end_refused t line e cause headed refused told =
   where
     after : Bool → Result ModelTree ReadCause
     after b = model_after (record { headed = b; building = t.building })
+
     err_of : ℕ × ReadCause → Result ModelTree (ℕ × ReadCause)
     err_of bad = Err bad
 

@@ -21,7 +21,7 @@ pub ends_here : (sum pushed : List Term) (is_negative : Bool) (ps qs : List Piec
     → GoesOn (map summand sum) is_negative ps whole → summand_of is_negative ps ≡ Ok (summand t, qs) → pushed ≡ sum ++ t ∷ [] → joint_of qs ≡ None → whole ≡ Ok (map summand pushed, qs)
 ends_here sum pushed is_negative ps qs whole t goes first push none =
     is_last (map summand sum) is_negative ps whole (summand t, qs) goes first none
-      ∙ ap (λ (xs : List Summand). ok_of xs) (sym (map-append summand sum (t ∷ [])) ∙ ap (map summand) (sym push))
+    ∙ ap (λ (xs : List Summand). ok_of xs) (sym (map-append summand sum (t ∷ [])) ∙ ap (map summand) (sym push))
   where
     ok_of : List Summand → Result (List Summand × List Piece) ReadCause
     ok_of xs = Ok (xs, qs)

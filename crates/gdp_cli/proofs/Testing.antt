@@ -47,6 +47,6 @@ if_both_read contents between before now model point model_text point_text (Ok r
   one = inl worked;
   says = λ _ all_model all_point told_model told_point.
       subst (λ (t : List ℕ). TestSays model point all_model t reply.status reply.text) (is_point all_point (same point ∙ told_point))
-          (subst (λ (t : List ℕ). TestSays model point t point_text reply.status reply.text) (is_model all_model told_model) says);
+      (subst (λ (t : List ℕ). TestSays model point t point_text reply.status reply.text) (is_model all_model told_model) says);
   fault = λ is. absurd (subst IsWorked is worked);
 }

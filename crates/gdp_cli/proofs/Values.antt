@@ -39,10 +39,10 @@ gcd_of_one n = (one-dvd n, one-dvd 1, λ d p q. q)
 
 pub whole_lowest : (n : ℤ) → IsReduced n (pos 1) (record { num = n; den = pos 1 })
 whole_lowest n = record {
-    divisible = λ e. cc e;
-    lowest = record { positive = omega (arith, ints); coprime = gcd_of_one (unsigned_abs n) };
-    same = refl
-  }
+  divisible = λ e. cc e;
+  lowest = record { positive = omega (arith, ints); coprime = gcd_of_one (unsigned_abs n) };
+  same = refl;
+}
 
 pub whole_only : (n : ℤ) (f : Fraction) → IsReduced n (pos 1) f → f ≡ record { num = n; den = pos 1 }
 whole_only n f reduced = reduced_same n (pos 1) f (record { num = n; den = pos 1 }) reduced (whole_lowest n)

@@ -24,16 +24,14 @@ ghost use Rattle.block_tree.specs.Values.{ModelTree, model_tree};
 ghost use Rattle.gdp_grammar.specs.Plain.{SpellsPlain};
 ghost use Rattle.gdp_grammar.specs.Points.{SpellsPoint};
 
-use std::alloc::{AllocError, AllocFailed, Global};
-
 use block_tree::{Model, ModelPoint};
 use fractions::Memory;
 use gdp_io::Name;
 use lp_rows::{Flags, Point, PointError};
-
 use model::{TextError, read_text};
 use plain::{are_real, is_plain};
 use point::read_numbers;
+use std::alloc::{AllocError, AllocFailed, Global};
 
 /// Why a text isn't read: it is none of the texts that are read today, or memory was wanted.
 #[derive(Clone, Copy, Debug, PartialEq, Eq)]
@@ -45,6 +43,7 @@ pub enum ReadError {
 impl From<Memory> for ReadError {
     ghost use Rattle.std.specs.Prelude.{◌≡◌};
     ghost use Rattle.gdp_cli.specs.declared.reader.ReadError.TheVariants as error;
+
     ghost from_gives = { λ _ e. e ≡ error.Memory };
 
     fn from(_memory: Memory) -> ReadError {
@@ -55,6 +54,7 @@ impl From<Memory> for ReadError {
 impl From<AllocError> for ReadError {
     ghost use Rattle.std.specs.Prelude.{◌≡◌};
     ghost use Rattle.gdp_cli.specs.declared.reader.ReadError.TheVariants.{Memory};
+
     ghost from_gives = { λ _ e. e ≡ Memory };
 
     fn from(_error: AllocError) -> ReadError {
@@ -65,6 +65,7 @@ impl From<AllocError> for ReadError {
 impl<T: Drop> From<AllocFailed<T>> for ReadError {
     ghost use Rattle.std.specs.Prelude.{◌≡◌};
     ghost use Rattle.gdp_cli.specs.declared.reader.ReadError.TheVariants.{Memory};
+
     ghost from_gives = { λ _ e. e ≡ Memory };
 
     fn from(_refused: AllocFailed<T>) -> ReadError {

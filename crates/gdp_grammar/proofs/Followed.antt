@@ -15,7 +15,7 @@ follows line before after [] e = ap (λ (t : Taken). ok_of t) e
     ok_of t = Ok t
 follows line before after (l ∷ ls) leads =
     ap (λ (r : Result Taken ReadCause). then_on (at_line line r) (λ next. follow (line + 1) next ls)) leads.1
-      ∙ follows (line + 1) leads.0 after ls leads.2
+    ∙ follows (line + 1) leads.0 after ls leads.2
 
 -- lines that are followed lead on
 pub leads : (line : ℕ) (before after : Taken) (ls : List (List ℕ)) → follow line before ls ≡ Ok after → Leads line before ls after
@@ -46,29 +46,39 @@ bad_after line before (l ∷ ls) bad e = bad_at line before l ls bad (with_line 
   where
     err_of : ReadCause → Result Taken ReadCause
     err_of x = Err x
+
     bad_at : (line : ℕ) (before : Taken) (l : List ℕ) (ls : List (List ℕ)) (bad : ℕ × ReadCause) (r : Result Taken ReadCause) → with_line before line l ≡ r
         → then_on (at_line line r) (λ next. follow (line + 1) next ls) ≡ Err bad
         → ((next : Taken) → follow (line + 1) next ls ≡ Err bad → BadAfter (line + 1) next ls bad.0 bad.1)
         → BadAfter line before (l ∷ ls) bad.0 bad.1
     bad_at line before l ls bad (Ok next) is e below =
-      let b = below next e in
-      record {
-        front = l ∷ b.front; bad = b.bad; rest = b.rest;
-        cut = ap (λ (xs : List (List ℕ)). l ∷ xs) b.cut;
-        number = omega (arith, b.number);
-        taken = b.taken;
-        lead = (next, is, b.lead);
-        fails = b.fails }
+        let b = below next e in
+        record {
+          front = l ∷ b.front;
+          bad = b.bad;
+          rest = b.rest;
+          cut = ap (λ (xs : List (List ℕ)). l ∷ xs) b.cut;
+          number = omega (arith, b.number);
+          taken = b.taken;
+          lead = (next, is, b.lead);
+          fails = b.fails;
+        }
     bad_at line before l ls bad (Err c) is e below =
-      let here : ℕ × ReadCause = (line, c) in
-      let same : here ≡ bad = cc e in
-      let number : line ≡ bad.0 = ap (λ (x : ℕ × ReadCause). x.0) same in
-      let cause : c ≡ bad.1 = ap (λ (x : ℕ × ReadCause). x.1) same in
-      record {
-        front = []; bad = l; rest = ls; cut = refl;
-        number = omega (arith, number);
-        taken = before; lead = refl;
-        fails = ap (λ (n : ℕ). with_line before n l) (sym number) ∙ is ∙ ap (λ (x : ReadCause). err_of x) cause }
+        let here : ℕ × ReadCause = (line, c) in
+        let same : here ≡ bad = cc e in
+        let number : line ≡ bad.0 = ap (λ (x : ℕ × ReadCause). x.0) same in
+        let cause : c ≡ bad.1 = ap (λ (x : ℕ × ReadCause). x.1) same in
+        record {
+          front = [];
+          bad = l;
+          rest = ls;
+          cut = refl;
+          number = omega (arith, number);
+          taken = before;
+          lead = refl;
+          fails = ap (λ (n : ℕ). with_line before n l) (sym number) ∙ is ∙ ap (λ (x : ReadCause). err_of x) cause;
+        }
+
 -- the model that the lines give is spelled
 pub spelled : (text : List ℕ) (m : ModelTree) → text_gives text ≡ Ok m → Spells text m
 spelled text m e = go (follow 1 nothing_taken (lines_of text)) refl e
@@ -79,6 +89,7 @@ spelled text m e = go (follow 1 nothing_taken (lines_of text)) refl e
         ok_of : ModelTree → Result ModelTree ReadCause
         ok_of y = Ok y
     ends taken (Err c) e = absurd (cc e)
+
     go : (r : Result Taken (ℕ × ReadCause)) → follow 1 nothing_taken (lines_of text) ≡ r
         → then_on r (λ taken. at_line (length (lines_of text) + 1) (model_after taken)) ≡ Ok m → Spells text m
     go (Ok taken) is e = (taken, leads 1 nothing_taken taken (lines_of text) is, ends taken (model_after taken) e)
@@ -88,7 +99,7 @@ spelled text m e = go (follow 1 nothing_taken (lines_of text)) refl e
 pub given : (text : List ℕ) (m : ModelTree) → Spells text m → text_gives text ≡ Ok m
 given text m s =
     ap (λ (r : Result Taken (ℕ × ReadCause)). then_on r (λ taken. at_line (length (lines_of text) + 1) (model_after taken))) (follows 1 nothing_taken s.0 (lines_of text) s.1)
-      ∙ ap (at_line (length (lines_of text) + 1)) s.2
+    ∙ ap (at_line (length (lines_of text) + 1)) s.2
 
 -- a refusal is that of the first bad line
 pub first_bad : (text : List ℕ) (bad : ℕ × ReadCause) → text_gives text ≡ Err bad → IsFirstBad text bad.0 bad.1
@@ -97,19 +108,20 @@ first_bad text bad e = go (follow 1 nothing_taken (lines_of text)) refl e
     ends : (taken : Taken) (r : Result ModelTree ReadCause) → at_line (length (lines_of text) + 1) r ≡ Err bad → (bad.0 ≡ length (lines_of text) + 1) × (r ≡ Err bad.1)
     ends taken (Ok x) e = absurd (cc e)
     ends taken (Err c) e =
-      let here : ℕ × ReadCause = (length (lines_of text) + 1, c) in
-      let same : here ≡ bad = cc e in
-      (ap (λ (x : ℕ × ReadCause). x.0) (sym same), ap (λ (x : ℕ × ReadCause). err_of x.1) same)
+        let here : ℕ × ReadCause = (length (lines_of text) + 1, c) in
+        let same : here ≡ bad = cc e in
+        (ap (λ (x : ℕ × ReadCause). x.0) (sym same), ap (λ (x : ℕ × ReadCause). err_of x.1) same)
       where
         err_of : ReadCause → Result ModelTree ReadCause
         err_of x = Err x
+
     go : (r : Result Taken (ℕ × ReadCause)) → follow 1 nothing_taken (lines_of text) ≡ r
         → then_on r (λ taken. at_line (length (lines_of text) + 1) (model_after taken)) ≡ Err bad → IsFirstBad text bad.0 bad.1
     go (Ok taken) is e =
-      let end = ends taken (model_after taken) e in
-      inr (record { number = end.0; taken = taken; leads = leads 1 nothing_taken taken (lines_of text) is; fails = end.1 })
+        let end = ends taken (model_after taken) e in
+        inr (record { number = end.0; taken = taken; leads = leads 1 nothing_taken taken (lines_of text) is; fails = end.1 })
     go (Err other) is e =
-      let same : other ≡ bad = cc e in
-      let b = bad_after 1 nothing_taken (lines_of text) other is in
-      subst (λ (x : ℕ × ReadCause). IsFirstBad text x.0 x.1) same
+        let same : other ≡ bad = cc e in
+        let b = bad_after 1 nothing_taken (lines_of text) other is in
+        subst (λ (x : ℕ × ReadCause). IsFirstBad text x.0 x.1) same
         (inl (record { before = b.front; bad = b.bad; after = b.rest; cut = b.cut; number = omega (arith, b.number); taken = b.taken; leads = b.lead; fails = b.fails }))

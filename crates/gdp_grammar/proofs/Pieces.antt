@@ -26,10 +26,10 @@ numeral_shorter digits [] = omega arith
 numeral_shorter digits (m ∷ []) = omega arith
 numeral_shorter digits (m ∷ d ∷ ds) =
     choice_shorter (eqb m 47 && belongs class.Digit d) _ _ (length (m ∷ d ∷ ds))
-      (λ e. omega (arith, rest_shorter class.Digit (d ∷ ds)))
-      (λ e. choice_shorter (eqb m 46 && belongs class.Digit d) _ _ (length (m ∷ d ∷ ds))
-        (λ f. omega (arith, rest_shorter class.Digit (d ∷ ds)))
-        (λ f. omega arith))
+    (λ e. omega (arith, rest_shorter class.Digit (d ∷ ds)))
+    (λ e. choice_shorter (eqb m 46 && belongs class.Digit d) _ _ (length (m ∷ d ∷ ds))
+    (λ f. omega (arith, rest_shorter class.Digit (d ∷ ds)))
+    (λ f. omega arith))
 
 double_shorter : (symbol : Symbol) (bs : List ℕ) → length (double_of symbol bs).1 ≤ length bs
 unfolding double_of
@@ -68,7 +68,7 @@ tokens_same (suc n) (suc m) (b ∷ bs) p q =
     let blank : tokens_within n bs ≡ tokens_within m bs = tokens_same n m bs (omega (arith, p)) (omega (arith, q)) in
     let token : tokens_within n (token_of b bs).1 ≡ tokens_within m (token_of b bs).1 = tokens_same n m (token_of b bs).1 (omega (arith, p, shorter)) (omega (arith, q, shorter)) in
     ap (λ ts. if belongs class.Blank b then ts else (token_of b bs).0 ∷ tokens_within n (token_of b bs).1) blank
-      ∙ ap (λ ts. if belongs class.Blank b then tokens_within m bs else (token_of b bs).0 ∷ ts) token
+    ∙ ap (λ ts. if belongs class.Blank b then tokens_within m bs else (token_of b bs).0 ∷ ts) token
 
 -- a blank before the tokens
 pub blank_before : (b : ℕ) (bs : List ℕ) → belongs class.Blank b ≡ true → tokens_of (b ∷ bs) ≡ tokens_of bs
@@ -80,24 +80,26 @@ pub token_before : (b : ℕ) (bs : List ℕ) → belongs class.Blank b ≡ false
 unfolding tokens_of
 token_before b bs e =
     cond-false (belongs class.Blank b) _ _ e
-      ∙ ap (λ ts. (token_of b bs).0 ∷ ts) (tokens_same (length bs) (length (token_of b bs).1) (token_of b bs).1 (token_shorter b bs) (omega arith))
+    ∙ ap (λ ts. (token_of b bs).0 ∷ ts) (tokens_same (length bs) (length (token_of b bs).1) (token_of b bs).1 (token_shorter b bs) (omega arith))
 
 -- blanks before the tokens
 pub blanks_before : (bytes : List ℕ) → tokens_of bytes ≡ tokens_of (rest class.Blank bytes)
 blanks_before [] = refl
 blanks_before (b ∷ bs) = elim (told (belongs class.Blank b)) [
-    inl e ↦ blank_before b bs e ∙ blanks_before bs ∙ ap tokens_of (sym (cond-true (belongs class.Blank b) _ _ e))
-  | inr e ↦ ap tokens_of (sym (cond-false (belongs class.Blank b) _ _ e)) ]
+  | inl e ↦ blank_before b bs e ∙ blanks_before bs ∙ ap tokens_of (sym (cond-true (belongs class.Blank b) _ _ e))
+  | inr e ↦ ap tokens_of (sym (cond-false (belongs class.Blank b) _ _ e))
+]
 
 -- what follows a class begins with no byte of it
 pub rest_begins : (kind : Class) (bytes : List ℕ) (b : ℕ) (bs : List ℕ) → rest kind bytes ≡ b ∷ bs → belongs kind b ≡ false
 rest_begins kind [] b bs e = absurd (cc e)
 rest_begins kind (c ∷ cs) b bs e = elim (told (belongs kind c)) [
-    inl t ↦ rest_begins kind cs b bs (sym (cond-true (belongs kind c) _ _ t) ∙ e)
+  | inl t ↦ rest_begins kind cs b bs (sym (cond-true (belongs kind c) _ _ t) ∙ e)
   | inr f ↦
       let same : c ∷ cs ≡ b ∷ bs = sym (cond-false (belongs kind c) _ _ f) ∙ e in
       let first : c ≡ b = cc same in
-      ap (belongs kind) (sym first) ∙ f ]
+      ap (belongs kind) (sym first) ∙ f
+]
 
 pub no_tokens : (bytes : List ℕ) → rest class.Blank bytes ≡ [] → tokens_of bytes ≡ []
 unfolding tokens_of
@@ -115,19 +117,21 @@ words_same (suc n) (suc m) [] p q = refl
 words_same zero m (b ∷ bs) p q = absurd (omega (arith, p))
 words_same (suc n) zero (b ∷ bs) p q = absurd (omega (arith, q))
 words_same (suc n) (suc m) (b ∷ bs) p q = elim (told (belongs class.Blank b)) [
-    inl e ↦ cond-true (belongs class.Blank b) _ _ e ∙ words_same n m bs (omega (arith, p)) (omega (arith, q)) ∙ sym (cond-true (belongs class.Blank b) _ _ e)
+  | inl e ↦ cond-true (belongs class.Blank b) _ _ e ∙ words_same n m bs (omega (arith, p)) (omega (arith, q)) ∙ sym (cond-true (belongs class.Blank b) _ _ e)
   | inr e ↦
       let shorter = rest_within class.Word b bs (ap not e) in
       cond-false (belongs class.Blank b) _ _ e
-        ∙ ap (λ ws. front class.Word (b ∷ bs) ∷ ws) (words_same n m (rest class.Word (b ∷ bs)) (omega (arith, p, shorter)) (omega (arith, q, shorter)))
-        ∙ sym (cond-false (belongs class.Blank b) _ _ e) ]
+      ∙ ap (λ ws. front class.Word (b ∷ bs) ∷ ws) (words_same n m (rest class.Word (b ∷ bs)) (omega (arith, p, shorter)) (omega (arith, q, shorter)))
+      ∙ sym (cond-false (belongs class.Blank b) _ _ e)
+]
 
 pub blanks_before_words : (bytes : List ℕ) → words_of bytes ≡ words_of (rest class.Blank bytes)
 unfolding words_of
 blanks_before_words [] = refl
 blanks_before_words (b ∷ bs) = elim (told (belongs class.Blank b)) [
-    inl e ↦ cond-true (belongs class.Blank b) _ _ e ∙ blanks_before_words bs ∙ ap words_of (sym (cond-true (belongs class.Blank b) _ _ e))
-  | inr e ↦ ap words_of (sym (cond-false (belongs class.Blank b) _ _ e)) ]
+  | inl e ↦ cond-true (belongs class.Blank b) _ _ e ∙ blanks_before_words bs ∙ ap words_of (sym (cond-true (belongs class.Blank b) _ _ e))
+  | inr e ↦ ap words_of (sym (cond-false (belongs class.Blank b) _ _ e))
+]
 
 pub no_words : (bytes : List ℕ) → rest class.Blank bytes ≡ [] → words_of bytes ≡ []
 unfolding words_of
@@ -138,4 +142,4 @@ unfolding words_of
 first_word bytes b bs e =
     let other = rest_begins class.Blank bytes b bs e in
     blanks_before_words bytes ∙ ap words_of e ∙ cond-false (belongs class.Blank b) _ _ other
-      ∙ ap (λ ws. front class.Word (b ∷ bs) ∷ ws) (words_same (length bs) (length (rest class.Word (b ∷ bs))) (rest class.Word (b ∷ bs)) (rest_within class.Word b bs (ap not other)) (omega arith))
+    ∙ ap (λ ws. front class.Word (b ∷ bs) ∷ ws) (words_same (length bs) (length (rest class.Word (b ∷ bs))) (rest class.Word (b ∷ bs)) (rest_within class.Word b bs (ap not other)) (omega arith))

@@ -90,7 +90,7 @@ is_last front is_negative ps whole x goes first none = go goes.0 goes.1 goes.2
     go : (n : ℕ) → length ps ≤ n → with_front front (summands_within n is_negative ps) ≡ whole → whole ≡ Ok (front ++ x.0 ∷ [], x.1)
     go zero room goes = absurd (omega (arith, room, summand_left is_negative ps x first))
     go (suc m) room goes =
-      sym goes ∙ ap (λ r. with_front front (r >>= rest_within m)) first
+        sym goes ∙ ap (λ r. with_front front (r >>= rest_within m)) first
         ∙ ap (λ o. with_front front (joined x.0 o x.1 (λ sign rest. summands_within m sign rest))) none
 
 -- a term joins the terms before it
@@ -108,9 +108,11 @@ goes_on front is_negative sign ps whole x goes first some = go goes.0 goes.1 goe
   where
     go : (n : ℕ) → length ps ≤ n → with_front front (summands_within n is_negative ps) ≡ whole → GoesOn (front ++ x.0 ∷ []) sign (drop 1 x.1) whole
     go zero room goes = absurd (omega (arith, room, summand_left is_negative ps x first))
-    go (suc m) room goes =
-      (m, omega (arith, room, summand_left is_negative ps x first, length-drop 1 x.1),
-        front_more front x.0 (summands_within m sign (drop 1 x.1))
+    go (suc m) room goes = (
+      m,
+      omega (arith, room, summand_left is_negative ps x first, length-drop 1 x.1),
+      front_more front x.0 (summands_within m sign (drop 1 x.1))
           ∙ ap (λ o. with_front front (joined x.0 o x.1 (λ sign rest. summands_within m sign rest))) (sym some)
           ∙ ap (λ r. with_front front (r >>= rest_within m)) (sym first)
-          ∙ goes)
+          ∙ goes,
+    )

@@ -39,9 +39,9 @@ twice_push id [] = refl
 twice_push id (None ∷ xs) = twice_push id xs
 twice_push id (Some a ∷ xs) =
     ap (λ b. b || has_twice (xs ++ Some id ∷ [])) (stands_push a id xs)
-      ∙ ap (λ b. (stands_in a xs || eqb a id) || b) (twice_push id xs)
-      ∙ shuffled (stands_in a xs) (eqb a id) (has_twice xs) (stands_in id xs)
-      ∙ ap (λ b. (stands_in a xs || has_twice xs) || (b || stands_in id xs)) (eqb_swap a id)
+    ∙ ap (λ b. (stands_in a xs || eqb a id) || b) (twice_push id xs)
+    ∙ shuffled (stands_in a xs) (eqb a id) (has_twice xs) (stands_in id xs)
+    ∙ ap (λ b. (stands_in a xs || has_twice xs) || (b || stands_in id xs)) (eqb_swap a id)
 
 pub twice_push_none : (xs : List (Option ℕ)) → has_twice (xs ++ None ∷ []) ≡ has_twice xs
 twice_push_none [] = refl

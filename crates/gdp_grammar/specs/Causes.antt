@@ -3,7 +3,6 @@ use Rattle.std.specs.Prelude.{Result, Ok, Err, Bool, if◌then◌else◌}
 use Rattle.gdp_grammar.specs.declared.cause.ReadCause.{ReadCause}
 
 infixl 10 ◌>>=◌
-
 -- goes on with what was read, or keeps the cause
 abbrev pub ◌>>=◌ : {A B : Type 0} → Result A ReadCause → (A → Result B ReadCause) → Result B ReadCause
 (Ok x) >>= f = f x

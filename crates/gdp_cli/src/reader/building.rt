@@ -18,17 +18,15 @@ ghost use Rattle.gdp_cli.specs.Gives.{Gives};
 ghost use Rattle.gdp_cli.specs.Lines.{signed, summand, named_summand, form};
 ghost use Rattle.gdp_cli.specs.Tokens.{spelled};
 
-use std::alloc::Global;
-
-use block_tree::{Bound, BuildError, ModelBuilder};
-use fractions::{Frac, Memory};
-use gdp_grammar::ReadCause;
-use lp_rows::{Kind, Rel};
-
 use super::fault::LineError;
 use super::form::{Form, Signed, Summand};
 use super::token::Numeral;
 use super::value::{end, signed_whole, value};
+use block_tree::{Bound, BuildError, ModelBuilder};
+use fractions::{Frac, Memory};
+use gdp_grammar::ReadCause;
+use lp_rows::{Kind, Rel};
+use std::alloc::Global;
 
 /// The cause of a refusal of the builder.
 pub fn refused(refusal: BuildError) -> LineError
@@ -120,10 +118,7 @@ fn coefficient(is_negative: bool, size: &Option<Numeral<'_>>) -> Option<Frac>
 }
 
 /// The terms with the values of their coefficients.
-fn valued(
-    alloc: Global,
-    terms: &[(u32, Summand<'_>)],
-) -> Result<Vec<(u32, Frac)>, LineError>
+fn valued(alloc: Global, terms: &[(u32, Summand<'_>)]) -> Result<Vec<(u32, Frac)>, LineError>
     ensures { Gives (λ valued. valued.items) result (valued_terms (map named_summand terms.now)) }
 {
     let mut valued = Vec::new(alloc);
@@ -166,7 +161,12 @@ fn add_row(
 }
 
 /// Adds what a line of this form says.
-pub fn add(alloc: Global, builder: &mut ModelBuilder, line: u32, read: &Form<'_>) -> Result<(), LineError>
+pub fn add(
+    alloc: Global,
+    builder: &mut ModelBuilder,
+    line: u32,
+    read: &Form<'_>,
+) -> Result<(), LineError>
     ensures { Gives (λ _. stands_for builder.new) result (with_form (stands_for builder.old) line (form read.now)) }
 {
     match read {

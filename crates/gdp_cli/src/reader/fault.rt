@@ -1,10 +1,8 @@
 //! Why a line isn't read.
 
-use std::alloc::{AllocError, AllocFailed};
-
 use fractions::Memory;
-
 use gdp_grammar::ReadCause;
+use std::alloc::{AllocError, AllocFailed};
 
 /// Why a line isn't read: it is refused, or memory was wanted.
 #[derive(Clone, Copy, Debug, PartialEq, Eq)]
@@ -16,6 +14,7 @@ pub enum LineError {
 impl From<AllocError> for LineError {
     ghost use Rattle.std.specs.Prelude.{◌≡◌};
     ghost use Rattle.gdp_cli.specs.declared.reader.fault.LineError.TheVariants.{Memory};
+
     ghost from_gives = { λ _ e. e ≡ Memory };
 
     fn from(_error: AllocError) -> LineError {
@@ -26,6 +25,7 @@ impl From<AllocError> for LineError {
 impl<T: Drop> From<AllocFailed<T>> for LineError {
     ghost use Rattle.std.specs.Prelude.{◌≡◌};
     ghost use Rattle.gdp_cli.specs.declared.reader.fault.LineError.TheVariants.{Memory};
+
     ghost from_gives = { λ _ e. e ≡ Memory };
 
     fn from(_refused: AllocFailed<T>) -> LineError {
@@ -36,6 +36,7 @@ impl<T: Drop> From<AllocFailed<T>> for LineError {
 impl From<Memory> for LineError {
     ghost use Rattle.std.specs.Prelude.{◌≡◌};
     ghost use Rattle.gdp_cli.specs.declared.reader.fault.LineError.TheVariants as error;
+
     ghost from_gives = { λ _ e. e ≡ error.Memory };
 
     fn from(_memory: Memory) -> LineError {
@@ -46,6 +47,7 @@ impl From<Memory> for LineError {
 impl From<ReadCause> for LineError {
     ghost use Rattle.std.specs.Prelude.{◌≡◌};
     ghost use Rattle.gdp_cli.specs.declared.reader.fault.LineError.TheVariants.{Refused};
+
     ghost from_gives = { λ cause e. e ≡ Refused cause };
 
     fn from(cause: ReadCause) -> LineError {

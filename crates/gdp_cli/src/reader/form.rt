@@ -8,13 +8,11 @@ ghost use Rattle.gdp_cli.specs.Gives.{Gives};
 ghost use Rattle.gdp_cli.specs.Tokens.{spelled};
 ghost use Rattle.gdp_cli.specs.Lines.{signed, summand, form};
 
-use std::alloc::Global;
-
-use gdp_grammar::{ReadCause, Symbol};
-use lp_rows::{Kind, Rel};
-
 use super::fault::LineError;
 use super::token::{Numeral, Token, Tokens};
+use gdp_grammar::{ReadCause, Symbol};
+use lp_rows::{Kind, Rel};
+use std::alloc::Global;
 
 /// A number with its sign.
 #[derive(Clone, Copy)]

@@ -6,9 +6,8 @@ ghost use Rattle.gdp_grammar.specs.Classes.{belongs as belongs_of};
 ghost use Rattle.gdp_grammar.specs.Numerals.{decimal};
 ghost use Rattle.gdp_grammar.specs.Points.{are_digits as are_digits_of, ranged as ranged_of, integer_of};
 
-use gdp_grammar::Class;
-
 use super::class::belongs;
+use gdp_grammar::Class;
 
 /// The number and one digit more, below 2^128.
 fn push_digit(size: u128, digit: u8) -> Option<u128>

@@ -4,9 +4,8 @@ ghost use Rattle.std.specs.Prelude.{◌≡◌, ℕ, ◌<◌, ◌∷◌, length};
 ghost use Rattle.gdp_grammar.specs.Lines.{lines_of};
 ghost use Rattle.gdp_grammar.specs.Lines.{without_comment as before_comment, without_return as before_return};
 
-use gdp_grammar::Class;
-
 use super::class::split_front;
+use gdp_grammar::Class;
 
 /// The line without its comment.
 pub fn without_comment(line: &[u8]) -> &[u8]

@@ -10,17 +10,15 @@ ghost use Rattle.gdp_grammar.specs.Words.{words_of};
 ghost use Rattle.gdp_cli.specs.Gives.{Gives};
 ghost use Rattle.gdp_cli.specs.Taking.{taken_of, GivesText};
 
-use std::alloc::Global;
-
-use block_tree::{Model, ModelBuilder};
-use gdp_grammar::ReadCause;
-
 use super::building::{add, refused};
 use super::fault::LineError;
 use super::form::read_form;
 use super::line::{first_line, without_comment};
 use super::token::Tokens;
 use super::word::{are_words, is_blank};
+use block_tree::{Model, ModelBuilder};
+use gdp_grammar::ReadCause;
+use std::alloc::Global;
 
 /// Why a model text isn't read: its first bad line, or the line after its last, with the cause; or memory was wanted.
 #[derive(Clone, Copy, Debug, PartialEq, Eq)]

@@ -6,19 +6,17 @@ ghost use Rattle.gdp_grammar.specs.Lines.{lines_of};
 ghost use Rattle.gdp_grammar.specs.Plain.{is_plain_byte as is_plain_byte_of, is_some_word, have_words as have_words_of, is_plain_text, is_real as is_real_of, are_real as are_real_of};
 ghost use Rattle.gdp_grammar.specs.Words.{words_of};
 
+use super::line::first_line;
+use super::word::next_word;
 use block_tree::Bound;
 use gdp_io::Name;
 use lp_rows::Kind;
-
-use super::line::first_line;
-use super::word::next_word;
 
 /// Whether each byte is plain.
 fn are_plain(text: &[u8]) -> bool
     ensures { result ≡ list_all is_plain_byte_of text.now }
 {
-    text.iter()
-        .all(|byte| !(*byte == b'\t' || *byte == b'\r' || *byte == b'#'))
+    text.iter().all(|byte| !(*byte == b'\t' || *byte == b'\r' || *byte == b'#'))
 }
 
 /// Whether the line has a word.

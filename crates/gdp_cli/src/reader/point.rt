@@ -5,16 +5,14 @@ ghost use Rattle.gdp_grammar.specs.Lines.{lines_of};
 ghost use Rattle.gdp_grammar.specs.Points.{value_in, numbers_in, point_numbers};
 ghost use Rattle.gdp_grammar.specs.Words.{words_of};
 
-use std::alloc::Global;
-
-use block_tree::Bound;
-use gdp_io::Name;
-use lp_rows::Kind;
-
 use super::ReadError;
 use super::integer::integer;
 use super::line::first_line;
 use super::word::{are_words, is_alone, next_word};
+use block_tree::Bound;
+use gdp_io::Name;
+use lp_rows::Kind;
+use std::alloc::Global;
 
 /// The number in a line `val NAME N` on this name.
 fn value_on(line: &[u8], name: &[u8]) -> Option<i128>

@@ -6,11 +6,9 @@ ghost use Rattle.gdp_grammar.specs.Classes.{front, rest};
 ghost use Rattle.gdp_grammar.specs.Tokens.{numeral_of, double_of, token_of, tokens_of};
 ghost use Rattle.gdp_cli.specs.Tokens.{spelled, piece};
 
-use std::marker::Model;
-
-use gdp_grammar::{Class, Symbol};
-
 use super::class::{belongs, split_front};
+use gdp_grammar::{Class, Symbol};
+use std::marker::Model;
 
 /// A number as it is spelled: its digits, after them those below a stroke or behind a point.
 #[derive(Clone, Copy)]
@@ -107,7 +105,9 @@ pub struct Tokens<'a> {
 impl<'a> Model for Tokens<'a> {
     ghost use Rattle.std.specs.Prelude.{List};
     ghost use Rattle.gdp_grammar.specs.Tokens.{Piece, tokens_of};
+
     ghost Value = { List Piece };
+
     ghost view = { λ t. tokens_of t.bytes.now };
 }
 

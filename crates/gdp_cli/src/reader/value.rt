@@ -8,12 +8,11 @@ ghost use Rattle.gdp_cli.specs.Gives.{Gives};
 ghost use Rattle.gdp_cli.specs.Lines.{signed};
 ghost use Rattle.gdp_cli.specs.Tokens.{spelled};
 
-use fractions::Frac;
-use gdp_grammar::ReadCause;
-
 use super::fault::LineError;
 use super::form::Signed;
 use super::token::Numeral;
+use fractions::Frac;
+use gdp_grammar::ReadCause;
 
 /// The greatest magnitude of a number's parts.
 const LIMIT: u64 = 1_000_000_000_000_000;

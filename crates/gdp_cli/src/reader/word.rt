@@ -5,9 +5,8 @@ ghost use Rattle.std.specs.Option.{MatchOption};
 ghost use Rattle.gdp_grammar.specs.Points.{are_words as are_words_of, is_alone as is_alone_of};
 ghost use Rattle.gdp_grammar.specs.Words.{words_of};
 
-use gdp_grammar::Class;
-
 use super::class::split_front;
+use gdp_grammar::Class;
 
 /// The first word of a line, and what follows it.
 pub fn next_word(line: &[u8]) -> Option<(&[u8], &[u8])>

@@ -9,7 +9,7 @@ pub turns-preserved : goal.turns-preserved
 turns-preserved c =
     let t = c.in-None.ensures.moved in
     record {
-        moves = run_more c.args.self.now c.turns.self c.turn.new.self c.args.steps.now c.turns.steps c.turn.new.steps c.args.log.now.events c.turns.log c.turn.new.log c.turns.invariant.moves t;
-        tableau = λ equation tab. t.tableau equation (c.turns.invariant.tableau equation tab);
-        spare = let a = c.turns.invariant.spare in let b = t.step_taken in let d = t.room_taken in omega arith;
+      moves = run_more c.args.self.now c.turns.self c.turn.new.self c.args.steps.now c.turns.steps c.turn.new.steps c.args.log.now.events c.turns.log c.turn.new.log c.turns.invariant.moves t;
+      tableau = λ equation tab. t.tableau equation (c.turns.invariant.tableau equation tab);
+      spare = let a = c.turns.invariant.spare in let b = t.step_taken in let d = t.room_taken in omega arith;
     }

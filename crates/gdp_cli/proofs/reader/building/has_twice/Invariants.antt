@@ -8,5 +8,5 @@ use Rattle.gdp_cli.proofs.reader.building.has_twice.Given as goal
 abbrev pub invariant-terms : goal.invariant-terms
 invariant-terms l = record {
   marked : IsMarked (length (stands_for l.builder).vars) l.seen.items (named (stands_for l.builder).vars (map summand (take l.term-index l.sum)));
-  once : has_twice (named (stands_for l.builder).vars (map summand (take l.term-index l.sum))) ≡ false
+  once : has_twice (named (stands_for l.builder).vars (map summand (take l.term-index l.sum))) ≡ false;
 }

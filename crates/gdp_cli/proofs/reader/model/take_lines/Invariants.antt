@@ -9,7 +9,7 @@ abbrev pub invariant-lines : goal.invariant-lines
 invariant-lines l = record {
   small : l.lines + length l.rest ≤ length l.text;
   counted : l.lines + length (lines_of l.rest) ≡ length (lines_of l.text);
-  follows : follow (l.lines + 1) (taken_of l.taking) (lines_of l.rest) ≡ follow 1 nothing_taken (lines_of l.text)
+  follows : follow (l.lines + 1) (taken_of l.taking) (lines_of l.rest) ≡ follow 1 nothing_taken (lines_of l.text);
 }
 
 abbrev pub decreases-lines : goal.decreases-lines

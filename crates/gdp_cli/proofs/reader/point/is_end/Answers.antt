@@ -10,4 +10,4 @@ pub returns-else-is_empty-2 : goal.returns-else-is_empty-2
 unfolding ended_by
 returns-else-is_empty-2 c =
     no_end c.args.text.now c.first_line.result.1.now c.first_line.result.0.now c.first_line.ensures.lines (grind (arith, common_steps))
-      ∙ ap ended_by (sym c.if-is_empty-2.false)
+    ∙ ap ended_by (sym c.if-is_empty-2.false)
