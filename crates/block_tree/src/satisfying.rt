@@ -9,7 +9,7 @@ ghost use Rattle.block_tree.specs.Satisfied.{
     point_of, is_above as above, is_below as under, is_whole as whole, is_of_kind as of_kind, true_count as count_true,
     mode_allows as allows, is_model_point,
 };
-ghost use Rattle.block_tree.specs.Sound.{are_rows_below, is_block_below, are_disjunctions_below, are_disjuncts_below};
+ghost use Rattle.block_tree.specs.Sound.{are_rows_below, is_block_sound, are_disjunctions_sound, are_disjuncts_sound};
 ghost use Rattle.block_tree.specs.Tests.{
     verdict_of, end_fits, tests_of_var, tests_of_vars, test_of_row, test_of_off, below, below_disjunctions, below_disjuncts,
     tests_of_block, tests_of_disjunctions, tests_of_disjuncts, tests_of_disjunction, tests_of_disjunct, tests_of, Tells,
@@ -46,7 +46,8 @@ pub fn satisfies(model: &Model, at: &Point, truths: &[bool]) -> Result<Verdict, 
 // The verdict of all tests.
 #[tactic(auto, using(crate::proofs::Verdicts::verdicts))]
 fn first_verdict(model: &Model, at: &Point, truths: &[bool]) -> Result<Verdict, SumWide>
-    requires { length at.now.nums ≡ length model.now.vars }
+    requires numbers { length at.now.nums ≡ length model.now.vars }
+    requires truths { length truths.now ≡ length model.now.booleans }
     ensures { result ≡ verdict_of (tests_of (model_tree model.now) (point_of at.now truths.now)) }
 {
     match vars_verdict(model.vars(), at.nums(), at.over()) {
@@ -216,7 +217,7 @@ fn mode_allows(mode: Mode, count: usize) -> bool
 #[cycle(satisfy)]
 #[tactic(auto, using(crate::proofs::Verdicts::verdicts))]
 fn block_verdict(block: &Block, at: &Point, truths: &[bool]) -> Result<Verdict, SumWide>
-    requires { is_block_below (length at.now.nums) (block_of block.now) ≡ true }
+    requires { is_block_sound (length at.now.nums) (length truths.now) (block_of block.now) ≡ true }
     ensures { result ≡ verdict_of (tests_of_block (block_of block.now) (point_of at.now truths.now)) }
 {
     match rows_verdict(block.rows(), at, truths) {
@@ -232,7 +233,7 @@ fn disjunctions_verdict(
     at: &Point,
     truths: &[bool],
 ) -> Result<Verdict, SumWide>
-    requires { are_disjunctions_below (length at.now.nums) (disjunctions_of disjunctions.now) ≡ true }
+    requires { are_disjunctions_sound (length at.now.nums) (length truths.now) (disjunctions_of disjunctions.now) ≡ true }
     ensures { result ≡ verdict_of (tests_of_disjunctions (disjunctions_of disjunctions.now) (point_of at.now truths.now)) }
 {
     for disjunction in disjunctions {
@@ -247,7 +248,7 @@ fn disjunctions_verdict(
 
 #[cycle(satisfy)]
 fn disjunction_verdict(disjunction: &Disjunction, at: &Point, truths: &[bool]) -> Result<Verdict, SumWide>
-    requires { are_disjuncts_below (length at.now.nums) (disjunction_of disjunction.now).1 ≡ true }
+    requires { are_disjuncts_sound (length at.now.nums) (length truths.now) (disjunction_of disjunction.now).1 ≡ true }
     ensures { result ≡ verdict_of (tests_of_disjunction (disjunction_of disjunction.now) (point_of at.now truths.now)) }
 {
     let count = true_count(disjunction.disjuncts(), truths);
@@ -259,7 +260,7 @@ fn disjunction_verdict(disjunction: &Disjunction, at: &Point, truths: &[bool]) -
 
 #[cycle(satisfy)]
 fn disjuncts_verdict(disjuncts: &[Disjunct], at: &Point, truths: &[bool]) -> Result<Verdict, SumWide>
-    requires { are_disjuncts_below (length at.now.nums) (disjuncts_of disjuncts.now) ≡ true }
+    requires { are_disjuncts_sound (length at.now.nums) (length truths.now) (disjuncts_of disjuncts.now) ≡ true }
     ensures { result ≡ verdict_of (tests_of_disjuncts (disjuncts_of disjuncts.now) (point_of at.now truths.now)) }
 {
     for disjunct in disjuncts {
@@ -274,7 +275,7 @@ fn disjuncts_verdict(disjuncts: &[Disjunct], at: &Point, truths: &[bool]) -> Res
 
 #[cycle(satisfy)]
 fn disjunct_verdict(disjunct: &Disjunct, at: &Point, truths: &[bool]) -> Result<Verdict, SumWide>
-    requires { is_block_below (length at.now.nums) (disjunct_of disjunct.now).1 ≡ true }
+    requires { is_block_sound (length at.now.nums) (length truths.now) (disjunct_of disjunct.now).1 ≡ true }
     ensures { result ≡ verdict_of (tests_of_disjunct (disjunct_of disjunct.now) (point_of at.now truths.now)) }
 {
     if is_on(truths, disjunct.indicator()) {
