@@ -61,7 +61,9 @@ def verdicts():
         ("one more is wide", free + b"row 1000000000000000 x >= 0\n", at(deep + 1, 0, 0), "wide at line 5"),
         ("a partial sum is wide", free + b"row x + y - z >= 0\n", at(GREATEST, 1, 1), "wide at line 5"),
         ("the same sum in an order that fits", free + b"row x - y + z >= 0\n", at(GREATEST, 1, 1), "holds"),
-        ("the sum goes by the order of the variables", free + b"row z - y + x >= 0\n", at(1, 1, GREATEST), "holds"),
+        ("the sum goes by the order of the variables", free + b"row x - z + y >= 0\n", at(GREATEST, 1, 1), "wide at line 5"),
+        ("and not by that of the text", free + b"row z + y + x >= 0\n", at(LEAST, 1, GREATEST), "holds"),
+        ("a product is wide though its sum fits", free + b"row - x + 2 y >= 0\n", at(GREATEST, 2**126, 0), "wide at line 5"),
         ("a partial sum is not its magnitude", free + b"row x + y >= 0\n", at(LEAST, 1, 0), "fails at line 5"),
         ("a failing row before a wide one", free + b"row x <= 0\nrow 2 x >= 0\n", at(GREATEST, 0, 0), "fails at line 5"),
         ("a wide row before a failing one", free + b"row 2 x >= 0\nrow x <= 0\n", at(GREATEST, 0, 0), "wide at line 5"),
@@ -197,7 +199,8 @@ def words():
     table = [[], ["test"], ["test", "M"], ["test", "M", "P", "P"], ["Test", "M", "P"], ["tes", "M", "P"], ["test ", "M", "P"]]
     table += [["", "M", "P"], ["M", "P"], ["M", "test", "P"], ["--", "test", "M", "P"], ["--help"], ["testing", "M", "P"]]
     later = ["format M", "compile bigm M", "solve bigm 100 M", "solve simplex 5 M", "check M P", "lp 100 M", "make 0 1", "bench bigm 100 0 1"]
-    return [Case(f"words: {line}", line, files, 7, err=b"words refused\n") for line in table + [line.split() for line in later]]
+    refused = [Case(f"words: {line}", line, files, 7, err=b"words refused\n") for line in table + [line.split() for line in later]]
+    return refused + [Case("words: no text of Unicode", ["test", b"M\xff", "P"], files, 9)]
 
 
 def reads():
@@ -259,6 +262,8 @@ def sizes():
 
 def streams():
     """Streams that take nothing, and memory that isn't there."""
+    if not os.path.exists("/dev/full"):
+        return []
     model, late = {"M": MODEL}, {"M": MODEL, "P": at(4)}
     full = full_model()[0]
     return [

@@ -28,12 +28,12 @@ abbrev pub sum_num : Fraction → Fraction → ℤ
 sum_num a b = a.num *ℤ b.den +ℤ b.num *ℤ a.den
 
 -- the four numbers that an addition forms are in the range of i128
-abbrev pub sum_fits : Fraction → Fraction → Bool
-sum_fits a b = fits (a.num *ℤ b.den) && fits (b.num *ℤ a.den) && fits (a.den *ℤ b.den) && fits (sum_num a b)
+abbrev pub addition_fits : Fraction → Fraction → Bool
+addition_fits a b = fits (a.num *ℤ b.den) && fits (b.num *ℤ a.den) && fits (a.den *ℤ b.den) && fits (sum_num a b)
 
 -- the two numbers that a multiplication forms are in the range of i128
-abbrev pub product_fits : Fraction → Fraction → Bool
-product_fits a b = fits (a.num *ℤ b.num) && fits (a.den *ℤ b.den)
+abbrev pub multiplication_fits : Fraction → Fraction → Bool
+multiplication_fits a b = fits (a.num *ℤ b.num) && fits (a.den *ℤ b.den)
 
 -- z is the greatest whole number that is at most f
 pub record IsFloor (f : Fraction) (z : ℤ) : Type 0 where

@@ -1,6 +1,19 @@
 //! Divisors and multiples of integers.
 
-ghost use Rattle.std.specs.Prelude.{◌≡◌, ◌≢◌, ◌≤◌, ◌<◌, ◌^◌, ℕ, pos, ◌*ℤ◌, ◌<ℤ◌, unsigned_abs, IfSome, IfNone};
+ghost use Rattle.std.specs.Prelude.{
+  ◌≡◌,
+  ◌≢◌,
+  ◌≤◌,
+  ◌<◌,
+  ◌^◌,
+  ℕ,
+  pos,
+  ◌*ℤ◌,
+  ◌<ℤ◌,
+  unsigned_abs,
+  IfSome,
+  IfNone,
+};
 ghost use Rattle.std.specs.Int.{IsGcd, ◌∣◌};
 ghost use Rattle.fractions.specs.Divisors.{IsLcm};
 
@@ -89,8 +102,10 @@ pub fn lcm(a: i128, b: i128) -> Option<i128>
     requires a_positive { pos 0 <ℤ a }
     requires b_positive { pos 0 <ℤ b }
     ensures positive { IfSome result (λ multiple. pos 0 <ℤ multiple) }
-    ensures least { IfSome result (λ multiple. IsLcm (unsigned_abs a) (unsigned_abs b) (unsigned_abs multiple)) }
-    ensures past { IfNone result ((multiple : ℕ) × (2 ^ 127 ≤ multiple) × IsLcm (unsigned_abs a) (unsigned_abs b) multiple) }
+    ensures least { IfSome result
+        (λ multiple. IsLcm (unsigned_abs a) (unsigned_abs b) (unsigned_abs multiple)) }
+    ensures past { IfNone result
+        ((multiple : ℕ) × (2 ^ 127 ≤ multiple) × IsLcm (unsigned_abs a) (unsigned_abs b) multiple) }
 {
     let divisor = divisor_of_both(b, a);
     a.checked_mul(exact_quotient(b, divisor))

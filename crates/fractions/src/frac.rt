@@ -2,7 +2,17 @@
 
 ghost use Rattle.std.specs.Prelude.{◌≡◌, pos, ◌*ℤ◌, ◌<ℤ◌, ◌⊎◌, IfSome, IfNone, IfOk, is_ok, false};
 ghost use Rattle.std.specs.Ordering.{int_cmp};
-ghost use Rattle.fractions.specs.Fraction.{Fraction, IsLowest, IsReduced, IsFloor, IsCeiling, fraction_fits, sum_num, sum_fits, product_fits};
+ghost use Rattle.fractions.specs.Fraction.{
+  Fraction,
+  IsLowest,
+  IsReduced,
+  IsFloor,
+  IsCeiling,
+  fraction_fits,
+  sum_num,
+  addition_fits,
+  multiplication_fits,
+};
 
 use crate::divisors::{divisor_of_both, exact_quotient};
 use crate::quotients::compare_quotients;
@@ -33,7 +43,8 @@ impl Frac {
     /// `num / den` in lowest terms, or None where `den` is 0 or a part of the reduced fraction is wide.
     pub fn new(num: i128, den: i128) -> Option<Frac>
         ensures reduced { IfSome result (IsReduced num den) }
-        ensures refused { IfNone result ((den ≡ pos 0) ⊎ ((f : Fraction) × IsReduced num den f × (fraction_fits f ≡ false))) }
+        ensures refused { IfNone result
+            ((den ≡ pos 0) ⊎ ((f : Fraction) × IsReduced num den f × (fraction_fits f ≡ false))) }
     {
         if den == 0 {
             return None;
@@ -70,7 +81,7 @@ impl Frac {
     /// denominators is.
     pub fn add(&self, other: &Frac) -> Result<Frac, Wide>
         ensures sum { IfOk result (IsReduced (sum_num self.now other.now) (self.now.den *ℤ other.now.den)) }
-        ensures fits { is_ok result ≡ sum_fits self.now other.now }
+        ensures fits { is_ok result ≡ addition_fits self.now other.now }
     {
         let Some(left) = self.num.checked_mul(other.den) else {
             return Err(Wide);
@@ -89,8 +100,9 @@ impl Frac {
 
     /// The product, or `Wide` where the product of the numerators or of the denominators is.
     pub fn mul(&self, other: &Frac) -> Result<Frac, Wide>
-        ensures product { IfOk result (IsReduced (self.now.num *ℤ other.now.num) (self.now.den *ℤ other.now.den)) }
-        ensures fits { is_ok result ≡ product_fits self.now other.now }
+        ensures product { IfOk result
+            (IsReduced (self.now.num *ℤ other.now.num) (self.now.den *ℤ other.now.den)) }
+        ensures fits { is_ok result ≡ multiplication_fits self.now other.now }
     {
         let Some(num) = self.num.checked_mul(other.num) else {
             return Err(Wide);

@@ -22,7 +22,7 @@ pub found_at : (files : List File) (index : ℕ) (file : File) (name : List ℕ)
     bytes_eq file.name name ≡ true → behind (drop index files) name ≡ behind files name → bytes_of (slice_get files index) ≡ behind files name
 found_at files index file name within is same so_far =
     ap bytes_of (slice_get-get_or files index file within ∙ ap Some (sym is)) ∙ sym (behind_found name file (drop (index + 1) files) same)
-        ∙ ap (λ rest. behind rest name) (ap (λ first. first ∷ drop (index + 1) files) is ∙ sym (drop_more files index file within)) ∙ so_far
+    ∙ ap (λ rest. behind rest name) (ap (λ first. first ∷ drop (index + 1) files) is ∙ sym (drop_more files index file within)) ∙ so_far
 
 -- one more file at the end
 behind_more_by : (b : Bool) (name bytes : List ℕ) (more : File) (files : List File) →

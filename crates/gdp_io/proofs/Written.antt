@@ -14,4 +14,4 @@ pub goes_on : (old was now : Option (List ℕ)) (text : List ℕ) (at n : ℕ) �
     was ≡ grown old (take at text) → now ≡ grown was (take n (take (length text - at) (drop at text))) → now ≡ grown old (take (at + n) text)
 goes_on old was now text at n so_far wrote =
     wrote ∙ ap (λ rest. grown was (take n rest)) (take_rest text at) ∙ ap (λ written. grown written (take n (drop at text))) so_far
-        ∙ grown-grown old (take at text) (take n (drop at text)) ∙ ap (grown old) (sym (take-add at n text))
+    ∙ grown-grown old (take at text) (take n (drop at text)) ∙ ap (grown old) (sym (take-add at n text))

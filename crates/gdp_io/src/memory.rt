@@ -54,6 +54,7 @@ impl MemShelf {
         ensures err { OnErr result (SameContents (⟦<MemShelf as Shelf>⟧.contents self.old) (⟦<MemShelf as Shelf>⟧.contents self.new)
             × SameNames (has_name self.old) (has_name self.new)) }
         ensures calls { (failing_calls self.new ≡ failing_calls self.old) × (calls_made self.new ≡ calls_made self.old) }
+        ensures faults { (other : List ℕ) → ⟦<MemShelf as Shelf>⟧.faults self.new other ≡ ⟦<MemShelf as Shelf>⟧.faults self.old other }
     {
         self.folder.put(alloc, name, bytes)
     }

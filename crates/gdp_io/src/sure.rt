@@ -1,5 +1,5 @@
 //! The forms that never fail: their count of faults is the constant 0.
-ghost use Rattle.std.specs.Prelude.{◌≡◌, ℕ, ◌<◌, ◌≤◌, ◌||◌, List, [], Some, None, false, IfOk, OnOk, OnErr, ⊤};
+ghost use Rattle.std.specs.Prelude.{◌≡◌, ℕ, ◌<◌, ◌≤◌, ◌||◌, List, [], Some, None, Ok, length, false, IfOk, OnOk, OnErr, ⊤};
 ghost use Rattle.std.specs.Str.{bytes_eq};
 ghost use Rattle.gdp_io.specs.Folder.{contents_of, IsAt, Puts};
 ghost use Rattle.gdp_io.specs.Names.{NamesGrow, SameNames};
@@ -73,7 +73,9 @@ pub struct SureSink;
 
 impl SureSink {
     /// A sink that has taken nothing.
-    pub fn new() -> SureSink {
+    pub fn new() -> SureSink
+        ensures { result ≡ record {} }
+    {
         SureSink
     }
 }
@@ -83,7 +85,9 @@ impl Sink for SureSink {
 
     ghost faults = { λ s. 0 };
 
-    fn write(&mut self, piece: &[u8]) -> Result<usize, Failed> {
+    fn write(&mut self, piece: &[u8]) -> Result<usize, Failed>
+        ensures { result ≡ Ok (length piece.now) }
+    {
         Ok(piece.len())
     }
 }

@@ -2,16 +2,18 @@
 //!
 //! A row holds at a point exactly where the sum of its terms stands in its relation to its right side times
 //! the point's denominator; the call that tests it gives that answer, or says that a number left 128 bits.
-//! Read `kinds.rt` for the small enums, `rows.rt` for what a row may be, `points.rt` for points, `holding.rt`
-//! for the test, and `lists.rt` for the lists that fields of these and other types are made of.
+//! Read `kinds.rt` and `columns.rt` for the small types, `rows.rt` for what a row may be, `points.rt` for points,
+//! `holding.rt` for the test, and `lists.rt` for the lists that fields of these and other types are made of.
 #![tactic(auto)]
 
+pub mod columns;
 pub mod holding;
 pub mod kinds;
 pub mod lists;
 pub mod points;
 pub mod rows;
 
+pub use columns::{Col, ColList, Sign, WideAt};
 pub use holding::{are_ids_below, row_holds, sum_at};
 pub use kinds::{Kind, Rel, Sense};
 pub use lists::{Flags, Nums, Terms};

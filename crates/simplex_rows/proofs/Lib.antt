@@ -1,7 +1,9 @@
-pub mod Steps
+pub mod RowSteps
 pub mod Choice
 pub mod Directions
 pub mod Unique
 pub mod Exchanges
 pub mod Dropped
 pub mod Feasible
+pub mod Narrow
+pub mod Factors

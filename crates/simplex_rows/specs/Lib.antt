@@ -2,3 +2,4 @@ pub mod Dropped
 pub mod Laws
 pub mod Steps
 pub mod Tableau
+pub mod Width

@@ -2,3 +2,8 @@
 #![tactic(auto)]
 
 pub mod laws;
+pub mod row;
+mod slices;
+mod steps;
+
+pub use row::Row;

@@ -6,15 +6,15 @@ use Rattle.gdp_io.proofs.shelves.read_all.Goals as goal
 pub returns-then-count-eq0-clause-text : goal.returns-then-count-eq0-clause-text
 returns-then-count-eq0-clause-text g c =
     ends _ _ (g.S.Shelf.is_at c.pieces.shelf) (g.S.Shelf.is_at c.read.new.self) _ _ (take c.in-Ok-read.count c.read.new.into)
-        c.pieces.invariant.contents c.pieces.invariant.so_far c.in-Ok-read.ensures.reads
-        (omega (arith, length-take c.in-Ok-read.count c.read.new.into))
+    c.pieces.invariant.contents c.pieces.invariant.so_far c.in-Ok-read.ensures.reads
+    (omega (arith, length-take c.in-Ok-read.count c.read.new.into))
 
 pub returns-then-count-left-clause-too_long : goal.returns-then-count-left-clause-too_long
 returns-then-count-left-clause-too_long g c _ =
     let bound : c.in-Ok-read.count ≤ length c.read.new.into = search rules in
     past _ _ (g.S.Shelf.is_at c.pieces.shelf) (g.S.Shelf.is_at c.read.new.self) _ _ (take c.in-Ok-read.count c.read.new.into) c.args.limit
-        c.pieces.invariant.contents c.pieces.invariant.so_far c.in-Ok-read.ensures.reads
-        (omega (arith, length-take-le c.in-Ok-read.count c.read.new.into bound, length-take c.room_for-room.result c.pieces.piece))
+    c.pieces.invariant.contents c.pieces.invariant.so_far c.in-Ok-read.ensures.reads
+    (omega (arith, length-take-le c.in-Ok-read.count c.read.new.into bound, length-take c.room_for-room.result c.pieces.piece))
 
 pub pieces-preserved : goal.pieces-preserved
 pieces-preserved g c =
@@ -27,5 +27,5 @@ pieces-preserved g c =
       later = search rules;
       so_far = subst (SoFar (g.S.Shelf.contents c.args.shelf.now) (g.S.Shelf.is_at c.read.new.self) c.args.name.now) (sym appended)
           (goes_on _ _ (g.S.Shelf.is_at c.pieces.shelf) (g.S.Shelf.is_at c.read.new.self) _ _ _
-              c.pieces.invariant.contents c.pieces.invariant.so_far c.in-Ok-read.ensures.reads);
+          c.pieces.invariant.contents c.pieces.invariant.so_far c.in-Ok-read.ensures.reads);
     }

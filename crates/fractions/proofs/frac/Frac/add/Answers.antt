@@ -3,7 +3,7 @@ use Rattle.std.specs.Int.{w128}
 use Rattle.std.proofs.lemmas.Int.{to_z-of_z}
 use Rattle.int_linear.proofs.Ring.{mul_pos}
 use Rattle.fractions.specs.Fraction.{Fraction}
-use Rattle.fractions.proofs.Arithmetic.{sum_fits_all, sum_fits_last}
+use Rattle.fractions.proofs.Arithmetic.{addition_fits_all, addition_fits_last}
 use Rattle.fractions.proofs.frac.Frac.add.Goals as goal
 
 pub returns-in_default-checked_add-clause-fits : goal.returns-in_default-checked_add-clause-fits
@@ -20,7 +20,7 @@ returns-in_default-checked_add-clause-fits c =
     let wide : ¬ FitsSigned w128 (c.in-Some.left +ℤ c.in-Some-checked_mul.right) = simp to_z-of_z at c.in_default-checked_add.ensures in
     let a : Fraction = record { num = c.self.inside.num; den = c.self.inside.den } in
     let b : Fraction = record { num = c.other.inside.num; den = c.other.inside.den } in
-    rw (← c.self.view_is, ← c.other.view_is) (sym (sum_fits_last a b left.0 right.0 den.0 (rw (left.1, right.1) at wide)))
+    rw (← c.self.view_is, ← c.other.view_is) (sym (addition_fits_last a b left.0 right.0 den.0 (rw (left.1, right.1) at wide)))
 
 pub reduced-requires : goal.reduced-requires
 reduced-requires c =
@@ -44,4 +44,4 @@ returns-clause-fits c =
     let sum : FitsSigned w128 (c.in-Some.left +ℤ c.in-Some-checked_mul.right) × c.in-Some-checked_add.sum ≡ c.in-Some.left +ℤ c.in-Some-checked_mul.right = simp to_z-of_z at c.in-Some-checked_add.ensures in
     let a : Fraction = record { num = c.self.inside.num; den = c.self.inside.den } in
     let b : Fraction = record { num = c.other.inside.num; den = c.other.inside.den } in
-    rw (← c.self.view_is, ← c.other.view_is) (sym (sum_fits_all a b left.0 right.0 den.0 (rw (left.1, right.1) at sum.0)))
+    rw (← c.self.view_is, ← c.other.view_is) (sym (addition_fits_all a b left.0 right.0 den.0 (rw (left.1, right.1) at sum.0)))

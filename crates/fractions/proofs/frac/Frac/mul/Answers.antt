@@ -3,7 +3,7 @@ use Rattle.std.specs.Int.{w128}
 use Rattle.std.proofs.lemmas.Int.{to_z-of_z}
 use Rattle.int_linear.proofs.Ring.{mul_pos}
 use Rattle.fractions.specs.Fraction.{Fraction}
-use Rattle.fractions.proofs.Arithmetic.{product_fits_all}
+use Rattle.fractions.proofs.Arithmetic.{multiplication_fits_all}
 use Rattle.fractions.proofs.frac.Frac.mul.Goals as goal
 
 pub reduced-requires : goal.reduced-requires
@@ -24,4 +24,4 @@ returns-clause-fits c =
     let den : FitsSigned w128 (c.self.inside.den *ℤ c.other.inside.den) × c.in-Some-checked_mul.den ≡ c.self.inside.den *ℤ c.other.inside.den = simp to_z-of_z at c.in-Some-checked_mul.ensures in
     let a : Fraction = record { num = c.self.inside.num; den = c.self.inside.den } in
     let b : Fraction = record { num = c.other.inside.num; den = c.other.inside.den } in
-    rw (← c.self.view_is, ← c.other.view_is) (sym (product_fits_all a b num.0 den.0))
+    rw (← c.self.view_is, ← c.other.view_is) (sym (multiplication_fits_all a b num.0 den.0))

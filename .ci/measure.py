@@ -1,0 +1,57 @@
+#!/usr/bin/env python3
+"""Measures the built program on the largest model, beside `cat` and `wc` on the same file, and prints a table.
+
+`measure.py [PROGRAM]` writes the model that `full_model.py` makes into a temporary folder, runs each command five times, in
+turns, and prints the least wall time and the greatest peak of resident memory. What Linux counts as the peak begins with the
+memory of this process, some 10 MiB, so a peak is told only of what passes that.
+"""
+
+import os
+import pathlib
+import subprocess
+import sys
+import tempfile
+import time
+
+ROOT = pathlib.Path(__file__).resolve().parent.parent
+TURNS = 5
+
+
+def measured(command, folder):
+    """Runs the command once, and gives its seconds, its peak memory in bytes, and what it wrote."""
+    read, write = os.pipe()
+    begun = time.perf_counter()
+    child = subprocess.Popen(command, cwd=folder, stdout=write if command[0] != "cat" else subprocess.DEVNULL)
+    os.close(write)
+    _, status, usage = os.wait4(child.pid, 0)
+    seconds = time.perf_counter() - begun
+    with os.fdopen(read, "rb") as pipe:
+        out = pipe.read()
+    return seconds, usage.ru_maxrss * 1024, os.waitstatus_to_exitcode(status), out.decode().strip()
+
+
+def main(named):
+    program = os.path.abspath(named[0]) if named else str(ROOT / "crates" / "gdp_cli" / "out" / "gdp_cli")
+    with tempfile.TemporaryDirectory() as folder:
+        subprocess.run([sys.executable, "-B", str(ROOT / ".ci" / "full_model.py"), folder], check=True)
+        size = os.path.getsize(os.path.join(folder, "full.gdp"))
+        commands = {
+            "`cat full.gdp`, to /dev/null": ["cat", "full.gdp"],
+            "`wc full.gdp`": ["wc", "full.gdp"],
+            "`gdp test full.gdp full.point`": [program, "test", "full.gdp", "full.point"],
+            "`gdp test full.gdp full-fails.point`": [program, "test", "full.gdp", "full-fails.point"],
+        }
+        runs = {name: [] for name in commands}
+        for _ in range(TURNS):
+            for name, command in commands.items():
+                runs[name].append(measured(command, folder))
+        print(f"| command, on {size:,} bytes | seconds | peak memory | times the text | answer |")
+        print("|---|---|---|---|---|")
+        for name, some in runs.items():
+            seconds, memory = min(run[0] for run in some), max(run[1] for run in some)
+            told = f"{memory / 2**20:.1f} MiB | {memory / size:.1f} | `{some[0][3]}`, status {some[0][2]}"
+            print(f"| {name} | {seconds:.3f} | {told if 'gdp test' in name else '| |'} |")
+
+
+if __name__ == "__main__":
+    main(sys.argv[1:])

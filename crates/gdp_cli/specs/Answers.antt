@@ -1,0 +1,30 @@
+-- What a command answers.
+use Rattle.std.specs.Prelude.{◌≡◌, ◌⊎◌, ℕ, List, Some}
+use Rattle.gdp_io.specs.Causes.{Rose}
+use Rattle.gdp_io.specs.Shelf.{Contents}
+use Rattle.gdp_cli.specs.declared.status.Status.{Status}
+use Rattle.gdp_cli.specs.declared.status.Status.TheVariants.{Read}
+use Rattle.gdp_cli.specs.Messages.{read_fault}
+use Rattle.gdp_cli.specs.Statuses.{IsWorked}
+use Rattle.gdp_cli.specs.Test.{TestSays}
+use Rattle.gdp_cli.specs.Words.{Form, IsRead}
+use Rattle.gdp_cli.specs.Words.Form.{Test}
+
+-- Where the contents behind the names are told, the command answers this status and this text.
+abbrev pub Says : Form → Contents → Status → List ℕ → Type 0
+Says (Test model point) contents status text = (model_text point_text : List ℕ) → contents model ≡ Some model_text → contents point ≡ Some point_text →
+    TestSays model point model_text point_text status text
+
+-- the count of a name that the command reads rose, and the text tells that name
+abbrev pub SaysFault : Form → (List ℕ → ℕ) → (List ℕ → ℕ) → List ℕ → Type 0
+SaysFault form before now text = (name : List ℕ) × IsRead form name × Rose (before name) (now name) × (text ≡ read_fault name)
+
+-- no count of a name that the command reads rose
+abbrev pub NoFault : Form → (List ℕ → ℕ) → (List ℕ → ℕ) → Type 0
+NoFault form before now = (name : List ℕ) → IsRead form name → ¬ Rose (before name) (now name)
+
+-- what a command answers, by its status
+pub record Answers (form : Form) (contents : Contents) (before now : List ℕ → ℕ) (status : Status) (text : List ℕ) : Type 0 where
+  pub one : IsWorked status ⊎ (status ≡ Read)
+  pub says : IsWorked status → Says form contents status text
+  pub fault : status ≡ Read → SaysFault form before now text

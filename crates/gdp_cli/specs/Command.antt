@@ -1,0 +1,7 @@
+-- The form that a command was read from.
+use Rattle.gdp_cli.specs.declared.words.Command.{Command}
+use Rattle.gdp_cli.specs.declared.words.Command.TheVariants.{Test}
+use Rattle.gdp_cli.specs.Words.{Form}
+
+abbrev pub form_of : Command → Form
+form_of (Test model point) = Form.Test model.now point.now

@@ -1,0 +1,10 @@
+pub mod Answers
+pub mod Command
+pub mod Messages
+pub mod Replies
+pub mod StandIn
+pub mod Statuses
+pub mod Streams
+pub mod Table
+pub mod Test
+pub mod Words

@@ -1,0 +1,18 @@
+-- A table of answers: the first row whose condition holds decides the status and the text.
+use Rattle.std.specs.Prelude.{◌≡◌, ◌⊎◌, ℕ, List}
+use Rattle.gdp_cli.specs.declared.status.Status.{Status}
+
+abbrev pub Rows : Type 1
+Rows = Status → List ℕ → Type 0
+
+-- where the condition holds, this status and this text; else as the rows below
+abbrev pub Row : Type 0 → Status → List ℕ → Rows → Rows
+Row when status text below = λ s t. (when × (s ≡ status) × (t ≡ text)) ⊎ ((¬ when) × below s t)
+
+-- this status and this text
+abbrev pub Last : Status → List ℕ → Rows
+Last status text = λ s t. (s ≡ status) × (t ≡ text)
+
+-- at most one status and text
+abbrev pub IsOne : Rows → Type 0
+IsOne rows = (s s' : Status) (t t' : List ℕ) → rows s t → rows s' t' → (s ≡ s') × (t ≡ t')

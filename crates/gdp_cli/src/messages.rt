@@ -1,0 +1,54 @@
+//! The texts that the program writes, and what a command answers.
+ghost use Rattle.std.specs.Prelude.{◌≡◌, ◌++◌, IfOk, codes};
+ghost use Rattle.std.specs.Fmt.{decimal};
+ghost use Rattle.gdp_cli.specs.Messages.{line};
+ghost use Rattle.gdp_cli.specs.Replies.{ReadFailed};
+
+use crate::status::Status;
+use fractions::Memory;
+use gdp_io::{ReadAllError, Text};
+use std::alloc::Global;
+
+/// What a command answers: a status, and the text that goes with it.
+#[derive(Debug, Drop)]
+pub struct Reply {
+    pub status: Status,
+    pub text: Text,
+}
+
+/// A line of two parts.
+pub fn make_line(alloc: Global, first: &[u8], second: &[u8]) -> Result<Text, Memory>
+    ensures { IfOk result (λ text. text ≡ line (first.now ++ second.now)) }
+{
+    let mut text = Text::new(alloc);
+    text.append(alloc, first)?;
+    text.append(alloc, second)?;
+    text.push(alloc, b'\n')?;
+    Ok(text)
+}
+
+/// A line that tells of a line of a text, by its number.
+pub fn make_place(alloc: Global, before: &[u8], mark: u32) -> Result<Text, Memory>
+    ensures { IfOk result (λ text. text ≡ line (before.now ++ decimal mark)) }
+{
+    let number = mark.to_string(alloc)?;
+    make_line(alloc, before, number.as_bytes())
+}
+
+/// What a command answers where the text behind a name was not read.
+pub fn read_failed(alloc: Global, error: ReadAllError, name: &str) -> Result<Reply, Memory>
+    ensures { IfOk result (λ reply. ReadFailed error name.now reply.status reply.text) }
+{
+    let (status, text) = match error {
+        ReadAllError::Read => (
+            Status::Read,
+            make_line(alloc, b"read fault: ", name.as_bytes())?,
+        ),
+        ReadAllError::TooLong => (
+            Status::Text,
+            make_line(alloc, name.as_bytes(), b": too long")?,
+        ),
+        ReadAllError::Memory => return Err(Memory),
+    };
+    Ok(Reply { status, text })
+}

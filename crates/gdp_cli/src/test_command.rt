@@ -1,0 +1,94 @@
+//! `test MODEL POINT`: whether a point satisfies a model.
+ghost use Rattle.std.specs.Prelude.{◌≡◌, ℕ, List, IfOk};
+ghost use Rattle.gdp_cli.specs.Answers.{Answers};
+ghost use Rattle.gdp_cli.specs.Statuses.{IsWorked};
+ghost use Rattle.gdp_cli.specs.Test.{TestSays, VerdictSays, IsLong};
+ghost use Rattle.gdp_cli.specs.Messages.{not_built};
+ghost use Rattle.gdp_cli.specs.Table.{IsOne};
+ghost use Rattle.gdp_cli.specs.Words.Form.{Test};
+
+use crate::messages::{Reply, make_line, make_place, read_failed};
+use crate::stand_in::{ReadError, read_model, read_point, satisfies};
+use crate::status::Status;
+use block_tree::{SumWide, Verdict};
+use fractions::Memory;
+use gdp_io::{Shelf, Text, read_all};
+use std::alloc::Global;
+
+/// The limit on a model and a point text, in bytes.
+pub const LIMIT: u64 = 8_388_608;
+
+/// Reads both texts, the model's first, and answers by them.
+pub fn test_command<S: Shelf>(
+    alloc: Global,
+    shelf: &mut S,
+    model: &str,
+    point: &str,
+) -> Result<Reply, Memory>
+    ensures { IfOk result (λ reply. Answers (Test model.now point.now) (S.contents shelf.old) (S.faults shelf.old) (S.faults shelf.new) reply.status reply.text) }
+{
+    let model_text = match read_all(shelf, alloc, model, LIMIT) {
+        Ok(text) => text,
+        Err(error) => return read_failed(alloc, error, model),
+    };
+    let point_text = match read_all(shelf, alloc, point, LIMIT) {
+        Ok(text) => text,
+        Err(error) => return read_failed(alloc, error, point),
+    };
+    judge(alloc, model, point, &model_text, &point_text)
+}
+
+/// What two texts that were read answer.
+fn judge(
+    alloc: Global,
+    model: &str,
+    point: &str,
+    model_text: &Text,
+    point_text: &Text,
+) -> Result<Reply, Memory>
+    requires model_within { ¬ IsLong model_text.now }
+    requires point_within { ¬ IsLong point_text.now }
+    ensures worked { IfOk result (λ reply. IsWorked reply.status) }
+    ensures says { IfOk result (λ reply. TestSays model.now point.now model_text.now point_text.now reply.status reply.text) }
+{
+    let read = match read_model(alloc, model_text.as_slice()) {
+        Ok(read) => read,
+        Err(ReadError::NotBuilt) => return not_built(alloc, model),
+        Err(ReadError::Memory) => return Err(Memory),
+    };
+    let at = match read_point(alloc, &read, point_text.as_slice()) {
+        Ok(at) => at,
+        Err(ReadError::NotBuilt) => return not_built(alloc, point),
+        Err(ReadError::Memory) => return Err(Memory),
+    };
+    verdict_reply(alloc, satisfies(&read, &at))
+}
+
+/// The answer where a text is none that is read.
+fn not_built(alloc: Global, name: &str) -> Result<Reply, Memory>
+    ensures { IfOk result (λ reply. (reply.status ≡ Status.Text) × (reply.text ≡ not_built name.now)) }
+{
+    let text = make_line(alloc, name.as_bytes(), b": not built")?;
+    Ok(Reply {
+        status: Status::Text,
+        text,
+    })
+}
+
+/// The answer of a verdict.
+fn verdict_reply(alloc: Global, verdict: Result<Verdict, SumWide>) -> Result<Reply, Memory>
+    ensures worked { IfOk result (λ reply. IsWorked reply.status) }
+    ensures says { IfOk result (λ reply. VerdictSays verdict reply.status reply.text) }
+{
+    let (status, text) = match verdict {
+        Ok(Verdict::Holds) => (Status::Done, make_line(alloc, b"holds", b"")?),
+        Ok(Verdict::FailsAt(mark)) => (Status::No, make_place(alloc, b"fails at line ", mark)?),
+        Err(SumWide { mark }) => (Status::GaveUp, make_place(alloc, b"wide at line ", mark)?),
+    };
+    Ok(Reply { status, text })
+}
+
+/// Two texts have at most one answer.
+pub fn one_answer()
+    ensures { (model point model_text point_text : List ℕ) → IsOne (TestSays model point model_text point_text) }
+{}

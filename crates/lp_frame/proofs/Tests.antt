@@ -1,0 +1,16 @@
+-- Two tests in one.
+use Rattle.std.proofs.Common.{◌≡◌, Bool, true, false, ◌&&◌, refl}
+
+pub both : (a b : Bool) → a ≡ true → b ≡ true → (a && b) ≡ true
+both true true p q = refl
+both true false p q = q
+both false b p q = p
+
+pub first : (a b : Bool) → (a && b) ≡ true → a ≡ true
+first true b h = refl
+first false b h = h
+
+pub second : (a b : Bool) → (a && b) ≡ true → b ≡ true
+second true b h = h
+second false true h = refl
+second false false h = h

@@ -1,0 +1,3 @@
+pub mod Force
+pub mod Split
+pub mod Standard

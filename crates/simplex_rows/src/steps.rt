@@ -1,0 +1,79 @@
+//! The arithmetic of one entry.
+
+ghost use Rattle.std.specs.Prelude.{◌≡◌, false, pos, ◌*ℤ◌, ◌-ℤ◌, ◌<ℤ◌, ◌≤ℤ◌, MatchBool, SomeIff, IsTrue, ◌↔◌};
+ghost use Rattle.fractions.specs.Width.{IsNarrow};
+ghost use Rattle.simplex_rows.specs.Width.{IsFactors, IsNarrowStep};
+
+use fractions::{divisor_of_both, exact_quotient};
+
+/// The product, or None where it isn't narrow.
+#[inline(always)]
+pub(crate) fn narrow_product(a: i128, b: i128) -> Option<i128>
+    ensures { SomeIff result (IsNarrow (a *ℤ b)) (a *ℤ b) }
+{
+    match a.checked_mul(b) {
+        Some(product) if product != i128::MIN => Some(product),
+        _ => None,
+    }
+}
+
+/// The difference, or None where it isn't narrow.
+#[inline(always)]
+pub(crate) fn narrow_difference(a: i128, b: i128) -> Option<i128>
+    ensures { SomeIff result (IsNarrow (a -ℤ b)) (a -ℤ b) }
+{
+    match a.checked_sub(b) {
+        Some(difference) if difference != i128::MIN => Some(difference),
+        _ => None,
+    }
+}
+
+/// Whether both products of a step and their difference are narrow.
+#[inline(always)]
+pub(crate) fn is_narrow_step(a: i128, b: i128, entry: i128, pivot: i128) -> bool
+    ensures { IsTrue result ↔ IsNarrowStep a b entry pivot }
+{
+    match narrow_product(a, entry) {
+        None => false,
+        Some(left) => match narrow_product(b, pivot) {
+            None => false,
+            Some(right) => match narrow_difference(left, right) {
+                None => false,
+                Some(_) => true,
+            },
+        },
+    }
+}
+
+/// Whether a step of this entry can be other than 0.
+#[inline(always)]
+pub(crate) fn has_step(entry: i128, pivot: i128) -> bool
+    ensures { result ≡ false → (entry ≡ pos 0) × (pivot ≡ pos 0) }
+{
+    entry != 0 || pivot != 0
+}
+
+/// `a * entry - b * pivot`.
+#[inline(always)]
+pub(crate) fn step_entry(a: i128, b: i128, entry: i128, pivot: i128) -> i128
+    requires { IsNarrowStep a b entry pivot }
+    ensures { result ≡ a *ℤ entry -ℤ b *ℤ pivot }
+{
+    a * entry - b * pivot
+}
+
+/// Whether the number is negative.
+pub(crate) fn is_negative(z: i128) -> bool
+    ensures { MatchBool result (z <ℤ pos 0) (pos 0 ≤ℤ z) }
+{
+    z < 0
+}
+
+/// `p` and `f` over their greatest common divisor.
+pub(crate) fn factors(p: i128, f: i128) -> (i128, i128)
+    requires { pos 0 <ℤ p }
+    ensures { IsFactors p f result.0 result.1 }
+{
+    let divisor = divisor_of_both(p, f);
+    (exact_quotient(p, divisor), exact_quotient(f, divisor))
+}
