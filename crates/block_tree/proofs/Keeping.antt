@@ -96,8 +96,8 @@ names_middle n (x ∷ xs) ys i h a =
     let r = both (is_name x) (not (has_name x (xs ++ ys))) q.0 in
     let k = has_middle x n xs ys (not_true (has_name x (xs ++ ys)) r.1) (bytes_eq_swap x n ∙ p.0) in
     and_true (is_name x && not (has_name x (xs ++ n ∷ ys))) (are_names (xs ++ n ∷ ys))
-      (and_true (is_name x) (not (has_name x (xs ++ n ∷ ys))) r.0 (is_not (has_name x (xs ++ n ∷ ys)) k))
-      (names_middle n xs ys i p.1 q.1)
+    (and_true (is_name x) (not (has_name x (xs ++ n ∷ ys))) r.0 (is_not (has_name x (xs ++ n ∷ ys)) k))
+    (names_middle n xs ys i p.1 q.1)
 
 -- with more variables and Booleans what is named is there still
 
@@ -128,7 +128,7 @@ mutual
       let p = both (is_filled js && are_disjuncts_sound n m js) (are_disjunctions_sound n m ds) h in
       let r = both (is_filled js) (are_disjuncts_sound n m js) p.0 in
       and_true (is_filled js && are_disjuncts_sound k j js) (are_disjunctions_sound k j ds)
-        (and_true (is_filled js) (are_disjuncts_sound k j js) r.0 (disjuncts_more n k m j js l q r.1)) (disjunctions_more n k m j ds l q p.1)
+      (and_true (is_filled js) (are_disjuncts_sound k j js) r.0 (disjuncts_more n k m j js l q r.1)) (disjunctions_more n k m j ds l q p.1)
 
   pub disjuncts_more : (n k m j : ℕ) (js : Disjuncts) → n ≤ k → m ≤ j → are_disjuncts_sound n m js ≡ true → are_disjuncts_sound k j js ≡ true
   disjuncts_more n k m j no_disjuncts l q h = refl
@@ -136,7 +136,7 @@ mutual
       let p = both (nat_lt head.indicator m && is_block_sound n m b) (are_disjuncts_sound n m js) h in
       let r = both (nat_lt head.indicator m) (is_block_sound n m b) p.0 in
       and_true (nat_lt head.indicator j && is_block_sound k j b) (are_disjuncts_sound k j js)
-        (and_true (nat_lt head.indicator j) (is_block_sound k j b) (lt_more head.indicator m j q r.0) (block_more n k m j b l q r.1)) (disjuncts_more n k m j js l q p.1)
+      (and_true (nat_lt head.indicator j) (is_block_sound k j b) (lt_more head.indicator m j q r.0) (block_more n k m j b l q r.1)) (disjuncts_more n k m j js l q p.1)
 
 pub open_more : (n k m j : ℕ) (o : OpenBlock) → n ≤ k → m ≤ j → is_open_sound n m o ≡ true → is_open_sound k j o ≡ true
 open_more n k m j o l q h =
@@ -166,8 +166,8 @@ pub around_whole : (n m : ℕ) (o : OpenBlock × OpenDisjunction) (os : List (Op
     → are_disjuncts_sound n m (disjuncts o.1.closed) ≡ true → is_placed m o.0 os ≡ true → are_around_sound n m os ≡ true → are_around_sound n m (o ∷ os) ≡ true
 around_whole n m o os a b c d =
     and_true (is_open_sound n m o.0 && are_disjuncts_sound n m (disjuncts o.1.closed) && is_placed m o.0 os) (are_around_sound n m os)
-      (and_true (is_open_sound n m o.0 && are_disjuncts_sound n m (disjuncts o.1.closed)) (is_placed m o.0 os)
-        (and_true (is_open_sound n m o.0) (are_disjuncts_sound n m (disjuncts o.1.closed)) a b) c) d
+    (and_true (is_open_sound n m o.0 && are_disjuncts_sound n m (disjuncts o.1.closed)) (is_placed m o.0 os)
+    (and_true (is_open_sound n m o.0) (are_disjuncts_sound n m (disjuncts o.1.closed)) a b) c) d
 
 pub around_more : (n k m j : ℕ) (os : List (OpenBlock × OpenDisjunction)) → n ≤ k → m ≤ j → are_around_sound n m os ≡ true → are_around_sound k j os ≡ true
 around_more n k m j [] l q h = refl
@@ -211,8 +211,8 @@ var_keeps_whole name kind bound mark b w =
       placed = w.placed;
       outer = rw e (around_more (length b.vars) (length b.vars + 1) (length b.booleans) (length b.booleans) b.outer (omega arith) (omega arith) w.outer);
       names = rw (map-append (λ v. v.0) b.vars ((name, kind, bound, mark) ∷ []))
-        (rw (append_one (map (λ v. v.0) b.vars) name (map (λ v. v.0) b.booleans))
-        (names_middle name (map (λ v. v.0) b.vars) (map (λ v. v.0) b.booleans) (not_false (is_name name) t.1) f w.names))
+          (rw (append_one (map (λ v. v.0) b.vars) name (map (λ v. v.0) b.booleans))
+          (names_middle name (map (λ v. v.0) b.vars) (map (λ v. v.0) b.booleans) (not_false (is_name name) t.1) f w.names));
     })
   where
     append_one : {A : Type 0} (xs : List A) (y : A) (ys : List A) → (xs ++ y ∷ []) ++ ys ≡ xs ++ y ∷ ys
@@ -257,12 +257,12 @@ row_keeps_whole terms rel right mark b w =
     let s = refuses_not (not (are_numbers k terms right)) Number limit r.1 in
     let t = refuses_not (nat_le 1000 (rows_so_far b)) Limit None s.1 in
     let ids : ids_below (length b.vars) row.terms ≡ true =
-        ids_scaled (length b.vars) k (sorted_terms terms) ∙ ids_sorted (length b.vars) [] terms refl (not_false (are_ids_below (length b.vars) terms) r.0) in
+    ids_scaled (length b.vars) k (sorted_terms terms) ∙ ids_sorted (length b.vars) [] terms refl (not_false (are_ids_below (length b.vars) terms) r.0) in
     let e : length (b.inner.rows ++ (row, mark) ∷ []) ≡ length b.inner.rows + 1 = length-append b.inner.rows ((row, mark) ∷ []) in
     let m = below_limit 1000 (rows_so_far b) t.0 in
     let x = both (are_rows_below (length b.vars) b.inner.rows) (are_disjunctions_sound (length b.vars) (length b.booleans) (disjunctions b.inner.closed)) w.inner in
     let y : are_rows_below (length b.vars) (b.inner.rows ++ (row, mark) ∷ []) ≡ true =
-        all_append (λ a. ids_below (length b.vars) a.0.terms) b.inner.rows ((row, mark) ∷ []) x.0 (and_true (ids_below (length b.vars) row.terms) true ids refl) in
+    all_append (λ a. ids_below (length b.vars) a.0.terms) b.inner.rows ((row, mark) ∷ []) x.0 (and_true (ids_below (length b.vars) row.terms) true ids refl) in
     record {
       few_variables = w.few_variables;
       few_booleans = w.few_booleans;
@@ -272,7 +272,7 @@ row_keeps_whole terms rel right mark b w =
       inner = and_true (are_rows_below (length b.vars) next.inner.rows) (are_disjunctions_sound (length b.vars) (length b.booleans) (disjunctions b.inner.closed)) y x.1;
       opened = w.opened;
       placed = w.placed;
-      outer = w.outer
+      outer = w.outer;
     })
 
 -- the builder that is new, and the model that is made
@@ -287,7 +287,7 @@ new_is_whole = record {
   inner = refl;
   opened = refl;
   placed = refl;
-  outer = refl
+  outer = refl;
 }
 
 goal_is_sound : (n : ℕ) (g : Option GoalValue) → is_given_sound n g ≡ true → is_goal_sound n (goal_of g) ≡ true
@@ -305,7 +305,7 @@ built_is_sound b w h =
       few_rows = omega (arith, w.few_rows);
       names = w.names;
       goal = goal_is_sound (length b.vars) b.goal w.goal;
-      root = w.inner
+      root = w.inner;
     }
 
 pub var_keeps_rows : (name : List ℕ) (kind : Kind) (bound : Bound) (mark : ℕ) (b : BuildingValue) → rows_so_far (var_outcome name kind bound mark b).1 ≡ rows_so_far b

@@ -38,16 +38,16 @@ pub record IsScaleSoFar (scale : ℕ) (rest ds : List ℕ) : Type 0 where
 pub scale_begins : (d : ℕ) (ds : List ℕ) → IsScaleSoFar d ds (d ∷ ds)
 scale_begins d ds = record {
   forth = λ m h. let p = both (is_multiple d m) (all_divide ds m) h in (divides d m p.0, p.1);
-  back = λ m h k. and_true (is_multiple d m) (all_divide ds m) (is_divided d m h) k
+  back = λ m h k. and_true (is_multiple d m) (all_divide ds m) (is_divided d m h) k;
 }
 
 pub scale_goes_on : (scale d next : ℕ) (rest ds : List ℕ) → IsScaleSoFar scale (d ∷ rest) ds → IsLcm scale d next → IsScaleSoFar next rest ds
 scale_goes_on scale d next rest ds s l = record {
   forth = λ m h.
-    let f = s.forth m h in
-    let p = both (is_multiple d m) (all_divide rest m) f.1 in
-    (l.least m f.0 (divides d m p.0), p.1);
-  back = λ m h k. s.back m (dvd_trans scale l.first h) (and_true (is_multiple d m) (all_divide rest m) (is_divided d m (dvd_trans d l.second h)) k)
+      let f = s.forth m h in
+      let p = both (is_multiple d m) (all_divide rest m) f.1 in
+      (l.least m f.0 (divides d m p.0), p.1);
+  back = λ m h k. s.back m (dvd_trans scale l.first h) (and_true (is_multiple d m) (all_divide rest m) (is_divided d m (dvd_trans d l.second h)) k);
 }
 
 -- the search finds the least
@@ -81,6 +81,7 @@ product_positive (d ∷ ds) h =
   where
     at_least : (n : ℕ) → nat_lt 0 n ≡ true → 1 ≤ n
     at_least n q = grind (arith, nat_tests)
+
     at_least_product : (x y : ℕ) → 1 ≤ x → 1 ≤ y → 1 ≤ x * y
     at_least_product x y q r = grind arith
 
@@ -116,8 +117,10 @@ least_scale_below ds m h l a = below (nat_le m (1 + product_of ds)) refl
   where
     within : nat_le m (1 + product_of ds) ≡ true → m ≤ 1 + product_of ds
     within q = grind (arith, nat_tests)
+
     past : nat_le m (1 + product_of ds) ≡ false → product_of ds ≤ m
     past q = grind (arith, nat_tests)
+
     below : (b : Bool) → nat_le m (1 + product_of ds) ≡ b → least_multiple_from (product_of ds) 1 ds ≤ m
     below true q = (search_finds (product_of ds) 1 m ds l (within q) a).1
     below false q =
@@ -193,6 +196,7 @@ large_part f k s d h n =
   where
     at_most : (x : ℕ) → nat_le x (10 ^ 15) ≡ true → x ≤ 10 ^ 15
     at_most x r = grind (arith, nat_tests)
+
     not_at_most : (x : ℕ) → 10 ^ 15 < x → nat_le x (10 ^ 15) ≡ false
     not_at_most x r = grind (arith, nat_tests)
 
@@ -222,15 +226,18 @@ zero_or_large k (t ∷ ts) n s p h =
   where
     at_least : (x : ℕ) → nat_lt 0 x ≡ true → 1 ≤ x
     at_least x q = grind (arith, nat_tests)
+
     not_zero : (x : ℕ) → nat_eq x 0 ≡ false → 1 ≤ x
     not_zero x q = grind (arith, nat_tests)
+
     product_zero : (x y : ℕ) → x ≡ 0 → x * y ≡ 0
     product_zero x y q = omega (arith, ap (λ z. z * y) q)
+
     by_num : (b : Bool) → nat_eq (unsigned_abs t.1.num) 0 ≡ b → has_small_parts t.1 ≡ true → 1 ≤ unsigned_abs t.1.den
         → (has_zero (scaled_terms k (t ∷ ts)) ≡ true) ⊎ (are_storable (scaled_terms k (t ∷ ts)) ≡ false)
     by_num true q a b =
         let z : unsigned_abs (scaled k t.1) ≡ 0 =
-            unsigned_abs-mul t.1.num (pos (k / unsigned_abs t.1.den)) ∙ product_zero (unsigned_abs t.1.num) (k / unsigned_abs t.1.den) (zero_is (unsigned_abs t.1.num) q) in
+        unsigned_abs-mul t.1.num (pos (k / unsigned_abs t.1.den)) ∙ product_zero (unsigned_abs t.1.num) (k / unsigned_abs t.1.den) (zero_is (unsigned_abs t.1.num) q) in
         inl (rw (is_zero (unsigned_abs (scaled k t.1)) z))
     by_num false q a b = inr (rw (large_part t.1 k a b h (not_zero (unsigned_abs t.1.num) q)))
 
@@ -249,7 +256,7 @@ pub too_large : (ts : List (ℕ × Fraction)) (f : Fraction) → list_all (λ t.
 too_large [] f s g p d h =
     let one : nat_lt 0 (unsigned_abs f.den) ≡ true = above (unsigned_abs f.den) d in
     let b = least_scale_below (unsigned_abs f.den ∷ []) (unsigned_abs f.den) (and_true (nat_lt 0 (unsigned_abs f.den)) true one refl) d
-        (and_true (is_multiple (unsigned_abs f.den) (unsigned_abs f.den)) true (is_divided (unsigned_abs f.den) (unsigned_abs f.den) (dvd_refl (unsigned_abs f.den))) refl) in
+    (and_true (is_multiple (unsigned_abs f.den) (unsigned_abs f.den)) true (is_divided (unsigned_abs f.den) (unsigned_abs f.den) (dvd_refl (unsigned_abs f.den))) refl) in
     absurd (omega (arith, b, small_den f g, h))
   where
     above : (x : ℕ) → 1 ≤ x → nat_lt 0 x ≡ true
@@ -261,7 +268,7 @@ too_large (t ∷ ts) f s g p d h =
     let b = list_all_sorted (λ u. nat_lt 0 (unsigned_abs u.1.den)) [] (t ∷ ts) refl (sym (positive_terms (t ∷ ts)) ∙ p) in
     let n = some_sorted (t ∷ []) ts refl in
     elim (zero_or_large k terms n a b h) [
-      inl z ↦ no_zero_wanted (list_all (λ u. has_small_parts u.1) (t ∷ ts)) (has_small_parts f) (has_zero (stored_terms k (t ∷ ts))) (are_storable (stored_terms k (t ∷ ts))) (is_storable (scaled k f)) z
+      | inl z ↦ no_zero_wanted (list_all (λ u. has_small_parts u.1) (t ∷ ts)) (has_small_parts f) (has_zero (stored_terms k (t ∷ ts))) (are_storable (stored_terms k (t ∷ ts))) (is_storable (scaled k f)) z
       | inr w ↦ all_small_wanted (list_all (λ u. has_small_parts u.1) (t ∷ ts)) (has_small_parts f) (has_zero (stored_terms k (t ∷ ts))) (are_storable (stored_terms k (t ∷ ts))) (is_storable (scaled k f)) w
     ]
 

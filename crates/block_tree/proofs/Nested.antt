@@ -39,12 +39,12 @@ booleans_whole name mark b w taken few named =
       few_booleans = rw e (below_limit 200 (length b.booleans) few);
       few_rows = w.few_rows;
       names = rw (map-append (λ x. x.0) b.booleans ((name, mark) ∷ []), ← (append_assoc vars names (name ∷ [])))
-        (names_middle name (vars ++ names) [] named absent before);
+          (names_middle name (vars ++ names) [] named absent before);
       goal = w.goal;
       inner = rw e (open_more (length b.vars) (length b.vars) (length b.booleans) (length b.booleans + 1) b.inner (omega arith) (omega arith) w.inner);
       opened = rw e (opened_more (length b.vars) (length b.vars) (length b.booleans) (length b.booleans + 1) b.opened (omega arith) (omega arith) w.opened);
       placed = rw e (placed_more (length b.booleans) (length b.booleans + 1) b.inner b.outer (omega arith) w.placed);
-      outer = rw e (around_more (length b.vars) (length b.vars) (length b.booleans) (length b.booleans + 1) b.outer (omega arith) (omega arith) w.outer)
+      outer = rw e (around_more (length b.vars) (length b.vars) (length b.booleans) (length b.booleans + 1) b.outer (omega arith) (omega arith) w.outer);
     }
 
 pub boolean_keeps_whole : (name : List ℕ) (mark : ℕ) (b : BuildingValue) → IsWhole b → IsWhole (boolean_outcome name mark b).1
@@ -89,6 +89,7 @@ scale_positive ts f = above (scale_of ts f) (search_from (product_of (all ts f))
   where
     all : List (ℕ × Fraction) → Fraction → List ℕ
     all us g = Rattle.std.proofs.Common.unsigned_abs g.den ∷ denominators us
+
     above : (x : ℕ) → 1 ≤ x → int_lt (pos 0) (pos x) ≡ true
     above x h = grind (arith, nat_tests)
 
@@ -135,7 +136,7 @@ goal_keeps_whole sense terms constant mark b w =
       inner = w.inner;
       opened = w.opened;
       placed = w.placed;
-      outer = w.outer
+      outer = w.outer;
     })
 
 pub goal_keeps_rows : (sense : Sense) (terms : List (ℕ × Fraction)) (constant : Fraction) (mark : ℕ) (b : BuildingValue) → rows_so_far (goal_outcome sense terms constant mark b).1 ≡ rows_so_far b
@@ -157,7 +158,7 @@ open_disjunction_keeps_whole mode mark b w =
       inner = w.inner;
       opened = refl;
       placed = w.placed;
-      outer = w.outer
+      outer = w.outer;
     })
 
 rows_at_none : (o : Option OpenDisjunction) → is_some o ≡ false → rows_in_opened o ≡ 0
@@ -208,7 +209,7 @@ disjunct_whole name mark b d o w h =
       inner = refl;
       opened = refl;
       placed = or_last (is_empty ((b.inner, d) ∷ b.outer)) (nat_lt (length b.booleans) m) (rw e (next_is_below (length b.booleans)));
-      outer = around_whole n m (b.inner, d) b.outer v.inner sound v.placed v.outer
+      outer = around_whole n m (b.inner, d) b.outer v.inner sound v.placed v.outer;
     }
 
 open_disjunct_keeps : (o : Option OpenDisjunction) (name : List ℕ) (mark : ℕ) (b : BuildingValue) → b.opened ≡ o → IsWhole b → IsWhole (open_disjunct_in o name mark b).1
@@ -280,10 +281,10 @@ close_disjunction_whole b d o w =
       names = w.names;
       goal = w.goal;
       inner = and_true (are_rows_below n b.inner.rows) (are_disjunctions_sound n m (disjunctions next.inner.closed)) x.0
-        (disjunctions_sound_push n m b.inner.closed (closed_disjunction d) x.1 (filled d.closed p.0) sound);
+          (disjunctions_sound_push n m b.inner.closed (closed_disjunction d) x.1 (filled d.closed p.0) sound);
       opened = refl;
       placed = w.placed;
-      outer = w.outer
+      outer = w.outer;
     })
 
 close_disjunct_whole : (b : BuildingValue) (os : List (OpenBlock × OpenDisjunction)) → b.opened ≡ None → b.outer ≡ os → IsWhole b → IsWhole (close_disjunct b os).1
@@ -305,7 +306,7 @@ close_disjunct_whole b (o ∷ os) e f w =
       inner = p.0;
       opened = disjuncts_sound_push n m o.1.closed (closed_disjunct b.inner) p.1 i w.inner;
       placed = p.2;
-      outer = p.3
+      outer = p.3;
     }
 
 close_opened_whole : (o : Option OpenDisjunction) (b : BuildingValue) → b.opened ≡ o → IsWhole b → IsWhole (close_opened o b).1

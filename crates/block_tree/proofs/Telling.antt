@@ -42,7 +42,7 @@ vars_tell (v ∷ vs) j nums over =
     let kind = is_of_kind v.1 (nums j) over in
     let rest = vars_take vs (j + 1) nums over in
     let e : ((low && high && kind) && rest) ≡ (low && (high && (kind && rest))) =
-        and_assoc (low && high) kind rest ∙ and_assoc low high (kind && rest) in
+    and_assoc (low && high) kind rest ∙ and_assoc low high (kind && rest) in
     rw e
     (sized_tells (end_fits v.2.low (nums j) over) low v.3 _ (high && (kind && rest))
     (sized_tells (end_fits v.2.high (nums j) over) high v.3 _ (kind && rest)

@@ -36,25 +36,25 @@ wide_here a v w wide e h = sym (rw (← h) at e)
 
 pub vars_at : (vs : List VarValue) (i : ℕ) (v : VarValue) (nums : ℕ → ℤ) (over : ℤ) → i < length vs → v ≡ get_or vs i v
     → verdict_of (tests_of_vars (drop i vs) i nums over)
-      ≡ first_of (verdict_of (tests_of_var v (nums i) over)) (verdict_of (tests_of_vars (drop (i + 1) vs) (i + 1) nums over))
+    ≡ first_of (verdict_of (tests_of_var v (nums i) over)) (verdict_of (tests_of_vars (drop (i + 1) vs) (i + 1) nums over))
 vars_at vs i v nums over h e =
     rw (drop-cons vs i v, ← e, add-one) (verdict-append (tests_of_var v (nums i) over) (tests_of_vars (drop (suc i) vs) (suc i) nums over))
 
 pub disjunctions_at : (ds : List Disjunction) (i : ℕ) (d : Disjunction) (p : PointOf) → i < length ds → d ≡ get_or ds i d
     → verdict_of (tests_of_disjunctions (disjunctions_of (drop i ds)) p)
-      ≡ first_of (verdict_of (tests_of_disjunction (disjunction_of d) p)) (verdict_of (tests_of_disjunctions (disjunctions_of (drop (i + 1) ds)) p))
+    ≡ first_of (verdict_of (tests_of_disjunction (disjunction_of d) p)) (verdict_of (tests_of_disjunctions (disjunctions_of (drop (i + 1) ds)) p))
 disjunctions_at ds i d p h e =
     rw (add-one, drop-cons ds i d, ← e) (verdict-append (tests_of_disjunction (disjunction_of d) p) (tests_of_disjunctions (disjunctions_of (drop (suc i) ds)) p))
 
 pub disjuncts_at : (js : List Disjunct) (i : ℕ) (j : Disjunct) (p : PointOf) → i < length js → j ≡ get_or js i j
     → verdict_of (tests_of_disjuncts (disjuncts_of (drop i js)) p)
-      ≡ first_of (verdict_of (tests_of_disjunct (disjunct_of j) p)) (verdict_of (tests_of_disjuncts (disjuncts_of (drop (i + 1) js)) p))
+    ≡ first_of (verdict_of (tests_of_disjunct (disjunct_of j) p)) (verdict_of (tests_of_disjuncts (disjuncts_of (drop (i + 1) js)) p))
 disjuncts_at js i j p h e =
     rw (add-one, drop-cons js i j, ← e) (verdict-append (tests_of_disjunct (disjunct_of j) p) (tests_of_disjuncts (disjuncts_of (drop (suc i) js)) p))
 
 pub disjunctions_off_at : (ds : List Disjunction) (i : ℕ) (d : Disjunction) (truths : ℕ → Bool) → i < length ds → d ≡ get_or ds i d
     → verdict_of (map (test_of_off truths) (below_disjunctions (disjunctions_of (drop i ds))))
-      ≡ first_of (verdict_of (map (test_of_off truths) (below_disjuncts (disjunction_of d).1))) (verdict_of (map (test_of_off truths) (below_disjunctions (disjunctions_of (drop (i + 1) ds)))))
+    ≡ first_of (verdict_of (map (test_of_off truths) (below_disjuncts (disjunction_of d).1))) (verdict_of (map (test_of_off truths) (below_disjunctions (disjunctions_of (drop (i + 1) ds)))))
 disjunctions_off_at ds i d truths h e =
     rw (add-one, drop-cons ds i d, ← e)
     (ap verdict_of (map-append (test_of_off truths) (below_disjuncts (disjunction_of d).1) (below_disjunctions (disjunctions_of (drop (suc i) ds))))
@@ -62,7 +62,7 @@ disjunctions_off_at ds i d truths h e =
 
 pub disjuncts_off_at : (js : List Disjunct) (i : ℕ) (j : Disjunct) (truths : ℕ → Bool) → i < length js → j ≡ get_or js i j
     → verdict_of (map (test_of_off truths) (below_disjuncts (disjuncts_of (drop i js))))
-      ≡ first_of (verdict_of (map (test_of_off truths) ((disjunct_of j).0 ∷ below (disjunct_of j).1))) (verdict_of (map (test_of_off truths) (below_disjuncts (disjuncts_of (drop (i + 1) js)))))
+    ≡ first_of (verdict_of (map (test_of_off truths) ((disjunct_of j).0 ∷ below (disjunct_of j).1))) (verdict_of (map (test_of_off truths) (below_disjuncts (disjuncts_of (drop (i + 1) js)))))
 disjuncts_off_at js i j truths h e =
     rw (add-one, drop-cons js i j, ← e)
     (ap verdict_of (map-append (test_of_off truths) ((disjunct_of j).0 ∷ below (disjunct_of j).1) (below_disjuncts (disjuncts_of (drop (suc i) js))))

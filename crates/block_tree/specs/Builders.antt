@@ -43,5 +43,5 @@ building_of b = record {
   goal = given_goal b.goal;
   inner = open_block_of b.inner;
   opened = opened_of b.opened;
-  outer = map pair_of (reverse b.outer.items)
+  outer = map pair_of (reverse b.outer.items);
 }

@@ -6,7 +6,11 @@ ghost use Rattle.fractions.specs.Memory.{Acts};
 ghost use Rattle.block_tree.specs.Builders.{building_of};
 ghost use Rattle.block_tree.specs.Building.{rows_so_far, new_building, var_outcome, row_outcome, finish_outcome};
 ghost use Rattle.block_tree.specs.Nesting.{
-    boolean_outcome, goal_outcome, open_disjunction_outcome, open_disjunct_outcome, close_outcome,
+  boolean_outcome,
+  goal_outcome,
+  open_disjunction_outcome,
+  open_disjunct_outcome,
+  close_outcome,
 };
 ghost use Rattle.block_tree.specs.Sound.{IsWhole};
 ghost use Rattle.block_tree.specs.Values.{model_tree};
@@ -56,10 +60,8 @@ impl ModelBuilder {
         bound: Bound,
         mark: u32,
     ) -> Result<u32, BuildError>
-        ensures {
-            Acts BuildError.Memory (stands_for self.old) (var_outcome name.now kind bound mark (stands_for self.old)) result
-            (stands_for self.new)
-        }
+        ensures { Acts BuildError.Memory (stands_for self.old) (var_outcome name.now kind bound mark (stands_for self.old)) result
+            (stands_for self.new) }
     {
         self.parts.var(alloc, name, kind, bound, mark)
     }
@@ -76,10 +78,8 @@ impl ModelBuilder {
         right: Frac,
         mark: u32,
     ) -> Result<(), BuildError>
-        ensures {
-            Acts BuildError.Memory (stands_for self.old) (row_outcome terms.now rel right mark (stands_for self.old)) result
-            (stands_for self.new)
-        }
+        ensures { Acts BuildError.Memory (stands_for self.old) (row_outcome terms.now rel right mark (stands_for self.old)) result
+            (stands_for self.new) }
     {
         self.parts.row(alloc, terms, rel, right, mark)
     }
@@ -89,10 +89,8 @@ impl ModelBuilder {
     /// `Place` where a block or a disjunction is open or one was opened before, `NameTwice` where the name is taken,
     /// `Limit` where there are 200 Booleans or the name is no name of a model.
     pub fn boolean(&mut self, alloc: Global, name: &str, mark: u32) -> Result<u32, BuildError>
-        ensures {
-            Acts BuildError.Memory (stands_for self.old) (boolean_outcome name.now mark (stands_for self.old)) result
-            (stands_for self.new)
-        }
+        ensures { Acts BuildError.Memory (stands_for self.old) (boolean_outcome name.now mark (stands_for self.old)) result
+            (stands_for self.new) }
     {
         self.parts.boolean(alloc, name, mark)
     }
@@ -110,20 +108,21 @@ impl ModelBuilder {
         constant: Frac,
         mark: u32,
     ) -> Result<(), BuildError>
-        ensures {
-            Acts BuildError.Memory (stands_for self.old) (goal_outcome sense terms.now constant mark (stands_for self.old)) result
-            (stands_for self.new)
-        }
+        ensures { Acts BuildError.Memory (stands_for self.old) (goal_outcome sense terms.now constant mark (stands_for self.old)) result
+            (stands_for self.new) }
     {
         self.parts.goal(alloc, sense, terms, constant, mark)
     }
 
     /// Opens a disjunction in the innermost open block. `Place` where a disjunction is open.
-    pub fn open_disjunction(&mut self, alloc: Global, mode: Mode, mark: u32) -> Result<(), BuildError>
-        ensures {
-            Acts BuildError.Memory (stands_for self.old) (open_disjunction_outcome mode mark (stands_for self.old)) result
-            (stands_for self.new)
-        }
+    pub fn open_disjunction(
+        &mut self,
+        alloc: Global,
+        mode: Mode,
+        mark: u32,
+    ) -> Result<(), BuildError>
+        ensures { Acts BuildError.Memory (stands_for self.old) (open_disjunction_outcome mode mark (stands_for self.old)) result
+            (stands_for self.new) }
     {
         self.parts.open_disjunction(alloc, mode, mark)
     }
@@ -133,10 +132,8 @@ impl ModelBuilder {
     /// `Place` where no disjunction is open, `NameTwice` where the name is taken, `Nesting` where eight disjuncts are
     /// open, `Limit` where there are 200 Booleans or the name is no name of a model.
     pub fn open_disjunct(&mut self, alloc: Global, name: &str, mark: u32) -> Result<u32, BuildError>
-        ensures {
-            Acts BuildError.Memory (stands_for self.old) (open_disjunct_outcome name.now mark (stands_for self.old)) result
-            (stands_for self.new)
-        }
+        ensures { Acts BuildError.Memory (stands_for self.old) (open_disjunct_outcome name.now mark (stands_for self.old)) result
+            (stands_for self.new) }
     {
         self.parts.open_disjunct(alloc, name, mark)
     }
@@ -145,9 +142,7 @@ impl ModelBuilder {
     ///
     /// `Place` where nothing is open, `Missing` where it is a disjunction without a disjunct.
     pub fn close(&mut self, _alloc: Global) -> Result<(), BuildError>
-        ensures {
-            Acts BuildError.Memory (stands_for self.old) (close_outcome (stands_for self.old)) result (stands_for self.new)
-        }
+        ensures { Acts BuildError.Memory (stands_for self.old) (close_outcome (stands_for self.old)) result (stands_for self.new) }
     {
         self.parts.close()
     }

@@ -26,3 +26,6 @@ pub use models::Model;
 pub use names::{Names, begins_name, continues_name, is_name};
 pub use satisfying::satisfies;
 pub use tree::{Block, Disjunct, Disjunction, Mode};
+
+#[cfg(test)]
+mod tests;

@@ -35,13 +35,9 @@ impl marker::Model for Model {
 
     ghost coded = { Prim.hlevel (codes, block_row.the_row.coded) };
 
-    ghost view = {
-        λ m. record { vars = m.vars; booleans = m.booleans; goal = goal_value_of m.goal; root = m.root }
-    };
+    ghost view = { λ m. record { vars = m.vars; booleans = m.booleans; goal = goal_value_of m.goal; root = m.root } };
 
-    ghost invariant = {
-        λ m. IsSound (model_tree (record { vars = m.vars; booleans = m.booleans; goal = goal_value_of m.goal; root = m.root }))
-    };
+    ghost invariant = { λ m. IsSound (model_tree (record { vars = m.vars; booleans = m.booleans; goal = goal_value_of m.goal; root = m.root })) };
 }
 
 impl Model {

@@ -3,12 +3,26 @@
 ghost use Rattle.std.specs.Prelude.{◌≡◌, None, IsSome, IsNone};
 ghost use Rattle.fractions.specs.Memory.{Acts, OrMemory, refused_or};
 ghost use Rattle.block_tree.specs.Building.{
-    new_building, var_outcome, row_outcome, rows_so_far, refusal_of_finish as finish_refusal, built_model, closed_block, goal_of,
-    is_at_root as at_root, refusal_of_terms,
+  new_building,
+  var_outcome,
+  row_outcome,
+  rows_so_far,
+  refusal_of_finish as finish_refusal,
+  built_model,
+  closed_block,
+  goal_of,
+  is_at_root as at_root,
+  refusal_of_terms,
 };
 ghost use Rattle.block_tree.specs.Nesting.{
-    boolean_outcome, goal_outcome, open_disjunction_outcome, open_disjunct_outcome, close_outcome, closed_disjunct,
-    closed_disjunction, refusal_of_scale,
+  boolean_outcome,
+  goal_outcome,
+  open_disjunction_outcome,
+  open_disjunct_outcome,
+  close_outcome,
+  closed_disjunct,
+  closed_disjunction,
+  refusal_of_scale,
 };
 ghost use Rattle.block_tree.specs.Numbers.{numbers_of};
 ghost use Rattle.block_tree.specs.Builders.{building_of, open_block_of, open_disjunction_of, goal_value_of, goal_made, given_goal};
@@ -21,8 +35,8 @@ use crate::declarations::{Booleans, Variables};
 use crate::errors::BuildError;
 use crate::models::Model;
 use crate::names::is_name;
-use crate::tree::{Block, Disjunct, Disjunction, Mode};
 use crate::scaling::{Stored, is_bound as is_sound_bound, stored_numbers, stored_row};
+use crate::tree::{Block, Disjunct, Disjunction, Mode};
 use fractions::Frac;
 use lp_rows::{Kind, Rel, Row, Sense, Terms, is_storable};
 use std::alloc::Global;
@@ -110,10 +124,8 @@ impl Parts {
         bound: Bound,
         mark: u32,
     ) -> Result<u32, BuildError>
-        ensures acts {
-            Acts BuildError.Memory (building_of self.old) (var_outcome name.now kind bound mark (building_of self.old)) result
-            (building_of self.new)
-        }
+        ensures acts { Acts BuildError.Memory (building_of self.old) (var_outcome name.now kind bound mark (building_of self.old)) result
+            (building_of self.new) }
         ensures counted { self.new.row_total ≡ self.old.row_total }
     {
         if self.opened.is_some() || !self.outer.is_empty() {
@@ -145,10 +157,8 @@ impl Parts {
         mark: u32,
     ) -> Result<(), BuildError>
         requires { self.old.row_total ≡ rows_so_far (building_of self.old) }
-        ensures acts {
-            Acts BuildError.Memory (building_of self.old) (row_outcome terms.now rel right mark (building_of self.old)) result
-            (building_of self.new)
-        }
+        ensures acts { Acts BuildError.Memory (building_of self.old) (row_outcome terms.now rel right mark (building_of self.old)) result
+            (building_of self.new) }
         ensures counted { self.new.row_total ≡ rows_so_far (building_of self.new) }
     {
         if self.opened.is_some() {
@@ -171,10 +181,8 @@ impl Parts {
 
     /// Declares a Boolean.
     pub fn boolean(&mut self, alloc: Global, name: &str, mark: u32) -> Result<u32, BuildError>
-        ensures acts {
-            Acts BuildError.Memory (building_of self.old) (boolean_outcome name.now mark (building_of self.old)) result
-            (building_of self.new)
-        }
+        ensures acts { Acts BuildError.Memory (building_of self.old) (boolean_outcome name.now mark (building_of self.old)) result
+            (building_of self.new) }
         ensures counted { self.new.row_total ≡ self.old.row_total }
     {
         if self.opened.is_some() || !self.outer.is_empty() || !self.inner.disjunctions.is_empty() {
@@ -202,10 +210,8 @@ impl Parts {
         constant: Frac,
         mark: u32,
     ) -> Result<(), BuildError>
-        ensures acts {
-            Acts BuildError.Memory (building_of self.old) (goal_outcome sense terms.now constant mark (building_of self.old)) result
-            (building_of self.new)
-        }
+        ensures acts { Acts BuildError.Memory (building_of self.old) (goal_outcome sense terms.now constant mark (building_of self.old)) result
+            (building_of self.new) }
         ensures counted { self.new.row_total ≡ self.old.row_total }
     {
         if !self.is_at_root() || self.goal.is_some() {
@@ -227,11 +233,14 @@ impl Parts {
     }
 
     /// Opens a disjunction in the innermost open block.
-    pub fn open_disjunction(&mut self, alloc: Global, mode: Mode, mark: u32) -> Result<(), BuildError>
-        ensures acts {
-            Acts BuildError.Memory (building_of self.old) (open_disjunction_outcome mode mark (building_of self.old)) result
-            (building_of self.new)
-        }
+    pub fn open_disjunction(
+        &mut self,
+        alloc: Global,
+        mode: Mode,
+        mark: u32,
+    ) -> Result<(), BuildError>
+        ensures acts { Acts BuildError.Memory (building_of self.old) (open_disjunction_outcome mode mark (building_of self.old)) result
+            (building_of self.new) }
         ensures counted { self.new.row_total ≡ self.old.row_total }
     {
         if self.opened.is_some() {
@@ -247,10 +256,8 @@ impl Parts {
 
     /// Opens a disjunct in the disjunction that is open.
     pub fn open_disjunct(&mut self, alloc: Global, name: &str, mark: u32) -> Result<u32, BuildError>
-        ensures acts {
-            Acts BuildError.Memory (building_of self.old) (open_disjunct_outcome name.now mark (building_of self.old)) result
-            (building_of self.new)
-        }
+        ensures acts { Acts BuildError.Memory (building_of self.old) (open_disjunct_outcome name.now mark (building_of self.old)) result
+            (building_of self.new) }
         ensures counted { self.new.row_total ≡ self.old.row_total }
     {
         if self.opened.is_none() {
@@ -287,9 +294,7 @@ impl Parts {
 
     /// Closes the innermost that is open.
     pub fn close(&mut self) -> Result<(), BuildError>
-        ensures acts {
-            Acts BuildError.Memory (building_of self.old) (close_outcome (building_of self.old)) result (building_of self.new)
-        }
+        ensures acts { Acts BuildError.Memory (building_of self.old) (close_outcome (building_of self.old)) result (building_of self.new) }
         ensures counted { self.new.row_total ≡ self.old.row_total }
     {
         if self.opened.is_some() {
@@ -302,9 +307,7 @@ impl Parts {
     // Closes the disjunction that is open.
     fn close_disjunction(&mut self) -> Result<(), BuildError>
         requires { IsSome self.old.opened }
-        ensures acts {
-            Acts BuildError.Memory (building_of self.old) (close_outcome (building_of self.old)) result (building_of self.new)
-        }
+        ensures acts { Acts BuildError.Memory (building_of self.old) (close_outcome (building_of self.old)) result (building_of self.new) }
         ensures counted { self.new.row_total ≡ self.old.row_total }
     {
         if self.inner.disjunctions.reserve(1).is_err() {
@@ -316,7 +319,9 @@ impl Parts {
                     self.opened = Some(opened);
                     return Err(BuildError::Missing);
                 }
-                self.inner.disjunctions.push_reserved(opened.into_disjunction());
+                self.inner
+                    .disjunctions
+                    .push_reserved(opened.into_disjunction());
                 Ok(())
             }
             None => unreachable!(),
@@ -326,9 +331,7 @@ impl Parts {
     // Closes the innermost open block, with no disjunction open in it.
     fn close_disjunct(&mut self) -> Result<(), BuildError>
         requires { IsNone self.old.opened }
-        ensures acts {
-            Acts BuildError.Memory (building_of self.old) (close_outcome (building_of self.old)) result (building_of self.new)
-        }
+        ensures acts { Acts BuildError.Memory (building_of self.old) (close_outcome (building_of self.old)) result (building_of self.new) }
         ensures counted { self.new.row_total ≡ self.old.row_total }
     {
         match self.outer.pop() {
@@ -440,11 +443,9 @@ fn stored_goal(
     count: usize,
     mark: u32,
 ) -> Result<Goal, BuildError>
-    ensures {
-        OrMemory BuildError.Memory result
+    ensures { OrMemory BuildError.Memory result
         (refused_or (refusal_of_terms count terms.now constant.now (refusal_of_scale terms.now constant.now))
-        (goal_made sense mark (numbers_of terms.now constant.now)))
-    }
+        (goal_made sense mark (numbers_of terms.now constant.now))) }
 {
     let stored = match stored_numbers(alloc, terms, constant, count) {
         Ok(stored) => stored,

@@ -1,22 +1,61 @@
 //! Whether a point satisfies a model, by tests in a fixed order: the first that does not pass decides.
 
 ghost use Rattle.std.specs.Prelude.{
-    ◌≡◌, ◌≤◌, ◌≤ℤ◌, ◌∷◌, true, false, pos, Ok, Err, length, map, if◌then◌else◌, int_le, slice_index_or, ◌*ℤ◌, MatchOption,
+  ◌≡◌,
+  ◌≤◌,
+  ◌≤ℤ◌,
+  ◌∷◌,
+  true,
+  false,
+  pos,
+  Ok,
+  Err,
+  length,
+  map,
+  if◌then◌else◌,
+  int_le,
+  slice_index_or,
+  ◌*ℤ◌,
+  MatchOption,
 };
 ghost use Rattle.fractions.specs.Width.{fits, wide};
 ghost use Rattle.int_linear.specs.Sums.{at as at_place};
 ghost use Rattle.block_tree.specs.Satisfied.{
-    point_of, is_above as above, is_below as under, is_whole as whole, is_of_kind as of_kind, true_count as count_true,
-    mode_allows as allows, is_model_point,
+  point_of,
+  is_above as above,
+  is_below as under,
+  is_whole as whole,
+  is_of_kind as of_kind,
+  true_count as count_true,
+  mode_allows as allows,
+  is_model_point,
 };
 ghost use Rattle.block_tree.specs.Sound.{are_rows_below, is_block_sound, are_disjunctions_sound, are_disjuncts_sound};
 ghost use Rattle.block_tree.specs.Tests.{
-    verdict_of, end_fits, tests_of_var, tests_of_vars, test_of_row, test_of_off, below, below_disjunctions, below_disjuncts,
-    tests_of_block, tests_of_disjunctions, tests_of_disjuncts, tests_of_disjunction, tests_of_disjunct, tests_of, Tells,
+  verdict_of,
+  end_fits,
+  tests_of_var,
+  tests_of_vars,
+  test_of_row,
+  test_of_off,
+  below,
+  below_disjunctions,
+  below_disjuncts,
+  tests_of_block,
+  tests_of_disjunctions,
+  tests_of_disjuncts,
+  tests_of_disjunction,
+  tests_of_disjunct,
+  tests_of,
+  Tells,
 };
 ghost use Rattle.block_tree.specs.Values.{model_tree};
 ghost use Rattle.block_tree.specs.View.{
-    block_of, disjunction_of, disjunct_of, disjunctions_of, disjuncts_of,
+  block_of,
+  disjunction_of,
+  disjunct_of,
+  disjunctions_of,
+  disjuncts_of,
 };
 
 use crate::bounds::Bound;
@@ -247,7 +286,11 @@ fn disjunctions_verdict(
 }
 
 #[cycle(satisfy)]
-fn disjunction_verdict(disjunction: &Disjunction, at: &Point, truths: &[bool]) -> Result<Verdict, SumWide>
+fn disjunction_verdict(
+    disjunction: &Disjunction,
+    at: &Point,
+    truths: &[bool],
+) -> Result<Verdict, SumWide>
     requires { are_disjuncts_sound (length at.now.nums) (length truths.now) (disjunction_of disjunction.now).1 ≡ true }
     ensures { result ≡ verdict_of (tests_of_disjunction (disjunction_of disjunction.now) (point_of at.now truths.now)) }
 {
@@ -259,7 +302,11 @@ fn disjunction_verdict(disjunction: &Disjunction, at: &Point, truths: &[bool]) -
 }
 
 #[cycle(satisfy)]
-fn disjuncts_verdict(disjuncts: &[Disjunct], at: &Point, truths: &[bool]) -> Result<Verdict, SumWide>
+fn disjuncts_verdict(
+    disjuncts: &[Disjunct],
+    at: &Point,
+    truths: &[bool],
+) -> Result<Verdict, SumWide>
     requires { are_disjuncts_sound (length at.now.nums) (length truths.now) (disjuncts_of disjuncts.now) ≡ true }
     ensures { result ≡ verdict_of (tests_of_disjuncts (disjuncts_of disjuncts.now) (point_of at.now truths.now)) }
 {
@@ -294,11 +341,12 @@ fn off_verdict(block: &Block, truths: &[bool]) -> Result<Verdict, SumWide>
 }
 
 #[cycle(off)]
-fn disjunctions_off_verdict(disjunctions: &[Disjunction], truths: &[bool]) -> Result<Verdict, SumWide>
-    ensures {
-        result ≡ verdict_of (map (test_of_off (λ k. slice_index_or truths.now k false))
-        (below_disjunctions (disjunctions_of disjunctions.now)))
-    }
+fn disjunctions_off_verdict(
+    disjunctions: &[Disjunction],
+    truths: &[bool],
+) -> Result<Verdict, SumWide>
+    ensures { result ≡ verdict_of (map (test_of_off (λ k. slice_index_or truths.now k false))
+        (below_disjunctions (disjunctions_of disjunctions.now))) }
 {
     for disjunction in disjunctions {
         match disjuncts_off_verdict(disjunction.disjuncts(), truths) {
@@ -312,9 +360,7 @@ fn disjunctions_off_verdict(disjunctions: &[Disjunction], truths: &[bool]) -> Re
 
 #[cycle(off)]
 fn disjuncts_off_verdict(disjuncts: &[Disjunct], truths: &[bool]) -> Result<Verdict, SumWide>
-    ensures {
-        result ≡ verdict_of (map (test_of_off (λ k. slice_index_or truths.now k false)) (below_disjuncts (disjuncts_of disjuncts.now)))
-    }
+    ensures { result ≡ verdict_of (map (test_of_off (λ k. slice_index_or truths.now k false)) (below_disjuncts (disjuncts_of disjuncts.now))) }
 {
     for disjunct in disjuncts {
         match disjunct_off_verdict(disjunct, truths) {
@@ -328,10 +374,8 @@ fn disjuncts_off_verdict(disjuncts: &[Disjunct], truths: &[bool]) -> Result<Verd
 
 #[cycle(off)]
 fn disjunct_off_verdict(disjunct: &Disjunct, truths: &[bool]) -> Result<Verdict, SumWide>
-    ensures {
-        result ≡ verdict_of (map (test_of_off (λ k. slice_index_or truths.now k false))
-        ((disjunct_of disjunct.now).0 ∷ below (disjunct_of disjunct.now).1))
-    }
+    ensures { result ≡ verdict_of (map (test_of_off (λ k. slice_index_or truths.now k false))
+        ((disjunct_of disjunct.now).0 ∷ below (disjunct_of disjunct.now).1)) }
 {
     if is_on(truths, disjunct.indicator()) {
         return Ok(Verdict::FailsAt(disjunct.mark()));

@@ -19,7 +19,7 @@ disjunctions_verdict-loop-disjunction-preserved t c =
     let h = rw c.in-Ok-Holds.field-0-is at c.in-Ok-Holds.ensures in
     record {
       below = grind (arith, common_steps);
-      rest = goes_on _ _ _ (disjunctions_at c.args.disjunctions.now c.loop-disjunction.disjunction-index c.disjunction-item.result (point_of c.args.at.now c.args.truths.now) c.loop-disjunction-test.true c.disjunction-item.is) h ∙ c.loop-disjunction.invariant.rest
+      rest = goes_on _ _ _ (disjunctions_at c.args.disjunctions.now c.loop-disjunction.disjunction-index c.disjunction-item.result (point_of c.args.at.now c.args.truths.now) c.loop-disjunction-test.true c.disjunction-item.is) h ∙ c.loop-disjunction.invariant.rest;
     }
 
 pub disjuncts_verdict-returns-in-Ok-FailsAt : goal.disjuncts_verdict-returns-in-Ok-FailsAt
@@ -37,5 +37,5 @@ disjuncts_verdict-loop-disjunct-preserved t c =
     let h = rw c.in-Ok-Holds.field-0-is at c.in-Ok-Holds.ensures in
     record {
       below = grind (arith, common_steps);
-      rest = goes_on _ _ _ (disjuncts_at c.args.disjuncts.now c.loop-disjunct.disjunct-index c.disjunct-item.result (point_of c.args.at.now c.args.truths.now) c.loop-disjunct-test.true c.disjunct-item.is) h ∙ c.loop-disjunct.invariant.rest
+      rest = goes_on _ _ _ (disjuncts_at c.args.disjuncts.now c.loop-disjunct.disjunct-index c.disjunct-item.result (point_of c.args.at.now c.args.truths.now) c.loop-disjunct-test.true c.disjunct-item.is) h ∙ c.loop-disjunct.invariant.rest;
     }

@@ -10,7 +10,7 @@ abbrev pub invariant-disjunctions_verdict-loop-disjunction :
 invariant-disjunctions_verdict-loop-disjunction l = record {
   below : are_disjunctions_sound (length l.at.nums) (length l.truths) (disjunctions_of (drop l.disjunction-index l.disjunctions)) ≡ true;
   rest : verdict_of (tests_of_disjunctions (disjunctions_of (drop l.disjunction-index l.disjunctions)) (point_of l.at l.truths))
-    ≡ verdict_of (tests_of_disjunctions (disjunctions_of l.disjunctions) (point_of l.at l.truths))
+      ≡ verdict_of (tests_of_disjunctions (disjunctions_of l.disjunctions) (point_of l.at l.truths));
 }
 
 abbrev pub invariant-disjuncts_verdict-loop-disjunct :
@@ -18,5 +18,5 @@ abbrev pub invariant-disjuncts_verdict-loop-disjunct :
 invariant-disjuncts_verdict-loop-disjunct l = record {
   below : are_disjuncts_sound (length l.at.nums) (length l.truths) (disjuncts_of (drop l.disjunct-index l.disjuncts)) ≡ true;
   rest : verdict_of (tests_of_disjuncts (disjuncts_of (drop l.disjunct-index l.disjuncts)) (point_of l.at l.truths))
-    ≡ verdict_of (tests_of_disjuncts (disjuncts_of l.disjuncts) (point_of l.at l.truths))
+      ≡ verdict_of (tests_of_disjuncts (disjuncts_of l.disjuncts) (point_of l.at l.truths));
 }

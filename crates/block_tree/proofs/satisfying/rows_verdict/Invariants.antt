@@ -7,5 +7,5 @@ use Rattle.block_tree.proofs.satisfying.rows_verdict.Given as goal
 abbrev pub invariant-loop-row : goal.invariant-loop-row
 invariant-loop-row l = record {
   below : are_rows_below (length l.at.nums) (drop l.row-index l.rows) ≡ true;
-  rest : verdict_of (map (test_of_row (point_of l.at l.truths)) (drop l.row-index l.rows)) ≡ verdict_of (map (test_of_row (point_of l.at l.truths)) l.rows)
+  rest : verdict_of (map (test_of_row (point_of l.at l.truths)) (drop l.row-index l.rows)) ≡ verdict_of (map (test_of_row (point_of l.at l.truths)) l.rows);
 }

@@ -7,5 +7,5 @@ abbrev pub invariant-loop-disjunct : goal.invariant-loop-disjunct
 invariant-loop-disjunct l = record {
   few : l.count ≤ l.disjunct-index;
   rest : l.count + true_count (disjuncts_of (drop l.disjunct-index l.disjuncts)) (λ k. slice_index_or l.truths k false)
-    ≡ true_count (disjuncts_of l.disjuncts) (λ k. slice_index_or l.truths k false)
+      ≡ true_count (disjuncts_of l.disjuncts) (λ k. slice_index_or l.truths k false);
 }

@@ -14,8 +14,8 @@ invariant_of-self c =
     let o = boolean_outcome c.args.name.now c.args.mark b in
     record {
       whole = acts_keep IsWhole Memory b o c.boolean.result (building_of c.boolean.new.self) c.boolean.ensures.acts c.args.self.now.whole
-        (boolean_keeps_whole c.args.name.now c.args.mark b c.args.self.now.whole);
+          (boolean_keeps_whole c.args.name.now c.args.mark b c.args.self.now.whole);
       counted = c.boolean.ensures.counted ∙ c.args.self.now.counted
-        ∙ sym (acts_keep (λ s. rows_so_far s ≡ rows_so_far b) Memory b o c.boolean.result (building_of c.boolean.new.self) c.boolean.ensures.acts refl
-          (boolean_keeps_rows c.args.name.now c.args.mark b))
+          ∙ sym (acts_keep (λ s. rows_so_far s ≡ rows_so_far b) Memory b o c.boolean.result (building_of c.boolean.new.self) c.boolean.ensures.acts refl
+          (boolean_keeps_rows c.args.name.now c.args.mark b));
     }

@@ -14,8 +14,8 @@ invariant_of-self c =
     let o = close_outcome b in
     record {
       whole = acts_keep IsWhole Memory b o c.close.result (building_of c.close.new.self) c.close.ensures.acts c.args.self.now.whole
-        (close_keeps_whole b c.args.self.now.whole);
+          (close_keeps_whole b c.args.self.now.whole);
       counted = c.close.ensures.counted ∙ c.args.self.now.counted
-        ∙ sym (acts_keep (λ s. rows_so_far s ≡ rows_so_far b) Memory b o c.close.result (building_of c.close.new.self) c.close.ensures.acts refl
-          (close_keeps_rows b))
+          ∙ sym (acts_keep (λ s. rows_so_far s ≡ rows_so_far b) Memory b o c.close.result (building_of c.close.new.self) c.close.ensures.acts refl
+          (close_keeps_rows b));
     }

@@ -14,8 +14,8 @@ invariant_of-self c =
     let o = goal_outcome c.args.sense c.args.terms.now c.args.constant c.args.mark b in
     record {
       whole = acts_keep IsWhole Memory b o c.goal.result (building_of c.goal.new.self) c.goal.ensures.acts c.args.self.now.whole
-        (goal_keeps_whole c.args.sense c.args.terms.now c.args.constant c.args.mark b c.args.self.now.whole);
+          (goal_keeps_whole c.args.sense c.args.terms.now c.args.constant c.args.mark b c.args.self.now.whole);
       counted = c.goal.ensures.counted ∙ c.args.self.now.counted
-        ∙ sym (acts_keep (λ s. rows_so_far s ≡ rows_so_far b) Memory b o c.goal.result (building_of c.goal.new.self) c.goal.ensures.acts refl
-          (goal_keeps_rows c.args.sense c.args.terms.now c.args.constant c.args.mark b))
+          ∙ sym (acts_keep (λ s. rows_so_far s ≡ rows_so_far b) Memory b o c.goal.result (building_of c.goal.new.self) c.goal.ensures.acts refl
+          (goal_keeps_rows c.args.sense c.args.terms.now c.args.constant c.args.mark b));
     }

@@ -14,8 +14,8 @@ invariant_of-self c =
     let o = open_disjunct_outcome c.args.name.now c.args.mark b in
     record {
       whole = acts_keep IsWhole Memory b o c.open_disjunct.result (building_of c.open_disjunct.new.self) c.open_disjunct.ensures.acts c.args.self.now.whole
-        (open_disjunct_keeps_whole c.args.name.now c.args.mark b c.args.self.now.whole);
+          (open_disjunct_keeps_whole c.args.name.now c.args.mark b c.args.self.now.whole);
       counted = c.open_disjunct.ensures.counted ∙ c.args.self.now.counted
-        ∙ sym (acts_keep (λ s. rows_so_far s ≡ rows_so_far b) Memory b o c.open_disjunct.result (building_of c.open_disjunct.new.self) c.open_disjunct.ensures.acts refl
-          (open_disjunct_keeps_rows c.args.name.now c.args.mark b))
+          ∙ sym (acts_keep (λ s. rows_so_far s ≡ rows_so_far b) Memory b o c.open_disjunct.result (building_of c.open_disjunct.new.self) c.open_disjunct.ensures.acts refl
+          (open_disjunct_keeps_rows c.args.name.now c.args.mark b));
     }

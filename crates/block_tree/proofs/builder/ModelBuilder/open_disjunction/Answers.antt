@@ -14,8 +14,8 @@ invariant_of-self c =
     let o = open_disjunction_outcome c.args.mode c.args.mark b in
     record {
       whole = acts_keep IsWhole Memory b o c.open_disjunction.result (building_of c.open_disjunction.new.self) c.open_disjunction.ensures.acts c.args.self.now.whole
-        (open_disjunction_keeps_whole c.args.mode c.args.mark b c.args.self.now.whole);
+          (open_disjunction_keeps_whole c.args.mode c.args.mark b c.args.self.now.whole);
       counted = c.open_disjunction.ensures.counted ∙ c.args.self.now.counted
-        ∙ sym (acts_keep (λ s. rows_so_far s ≡ rows_so_far b) Memory b o c.open_disjunction.result (building_of c.open_disjunction.new.self) c.open_disjunction.ensures.acts refl
-          (open_disjunction_keeps_rows c.args.mode c.args.mark b))
+          ∙ sym (acts_keep (λ s. rows_so_far s ≡ rows_so_far b) Memory b o c.open_disjunction.result (building_of c.open_disjunction.new.self) c.open_disjunction.ensures.acts refl
+          (open_disjunction_keeps_rows c.args.mode c.args.mark b));
     }

@@ -10,6 +10,6 @@ invariant_of-self c =
     let b = building_of c.args.self.now.parts in
     record {
       whole = acts_keep IsWhole Memory b (row_outcome c.args.terms.now c.args.rel c.args.right c.args.mark b) c.row.result (building_of c.row.new.self)
-        c.row.ensures.acts c.args.self.now.whole (row_keeps_whole c.args.terms.now c.args.rel c.args.right c.args.mark b c.args.self.now.whole);
-      counted = c.row.ensures.counted
+          c.row.ensures.acts c.args.self.now.whole (row_keeps_whole c.args.terms.now c.args.rel c.args.right c.args.mark b c.args.self.now.whole);
+      counted = c.row.ensures.counted;
     }

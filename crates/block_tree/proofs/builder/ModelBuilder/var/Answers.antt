@@ -12,8 +12,8 @@ invariant_of-self c =
     let o = var_outcome c.args.name.now c.args.kind c.args.bound c.args.mark b in
     record {
       whole = acts_keep IsWhole Memory b o c.var.result (building_of c.var.new.self) c.var.ensures.acts c.args.self.now.whole
-        (var_keeps_whole c.args.name.now c.args.kind c.args.bound c.args.mark b c.args.self.now.whole);
+          (var_keeps_whole c.args.name.now c.args.kind c.args.bound c.args.mark b c.args.self.now.whole);
       counted = c.var.ensures.counted ∙ c.args.self.now.counted
-        ∙ sym (acts_keep (λ s. rows_so_far s ≡ rows_so_far b) Memory b o c.var.result (building_of c.var.new.self) c.var.ensures.acts refl
-          (var_keeps_rows c.args.name.now c.args.kind c.args.bound c.args.mark b))
+          ∙ sym (acts_keep (λ s. rows_so_far s ≡ rows_so_far b) Memory b o c.var.result (building_of c.var.new.self) c.var.ensures.acts refl
+          (var_keeps_rows c.args.name.now c.args.kind c.args.bound c.args.mark b));
     }
