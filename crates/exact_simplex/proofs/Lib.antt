@@ -1,8 +1,13 @@
 pub mod Choices
 pub mod Pivots
-pub mod Tests
+pub mod Comparisons
 pub mod Ratios
 pub mod Named
 pub mod Sound
 pub mod Runs
 pub mod Filling
+pub mod FirstRows
+pub mod FirstTable
+pub mod Certificates
+pub mod Fractions
+pub mod Solutions
