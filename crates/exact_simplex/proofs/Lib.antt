@@ -6,3 +6,6 @@ pub mod Named
 pub mod Sound
 pub mod Runs
 pub mod Filling
+pub mod FirstRows
+pub mod FirstTable
+pub mod Certificates

@@ -1,18 +1,23 @@
 //! The tableau, and its exchange.
 
-ghost use Rattle.std.specs.Prelude.{◌≡◌, ◌||◌, ℕ, ℤ, ◌+◌, ◌≤◌, OnOk, OnErr, IfErr, IfSome, IfNone};
+ghost use Rattle.std.specs.Prelude.{◌≡◌, ◌||◌, ℕ, ℤ, ◌+◌, ◌≤◌, OnOk, OnErr, IfOk, IfErr, IfSome, IfNone};
 ghost use Rattle.exact_simplex.specs.Table.{IsTableauFor};
 ghost use Rattle.exact_simplex.specs.Bland.{bland_move};
+ghost use Rattle.exact_simplex.specs.Equations.{IsFirstTable, IsTableauOf};
 ghost use Rattle.exact_simplex.specs.Exchange.{IsExchanged, IsNarrowMove, IsWideAtEntry};
 ghost use Rattle.exact_simplex.specs.Run.{HasRun, HasEnded, HasTurned};
 
 use crate::bland::move_of;
 use crate::choosing::find_row;
 use crate::exchange::exchange_rows;
+use crate::first::{first_basis, first_rows};
 use crate::log::{Event, Log};
 use crate::moves::{Move, Outcome};
+use fractions::Memory;
+use lp_frame::StandardForm;
 use lp_rows::WideAt;
 use simplex_rows::Row;
+use std::alloc::Global;
 use std::marker::Model;
 
 /// The tableau of a basis, which contracts see as a `Table`.
@@ -37,6 +42,26 @@ impl Model for Tableau {
 }
 
 impl Tableau {
+    /// The tableau of the slack basis of this standard form. It takes all memory that the moves will want.
+    pub fn make(alloc: Global, standard: &StandardForm) -> Result<Tableau, Memory>
+        ensures first { IfOk result (IsFirstTable standard.now) }
+        ensures tableau { IfOk result (IsTableauOf standard.now) }
+    {
+        let columns = standard.columns() as usize;
+        let height = standard.rows().len();
+        let rows = first_rows(alloc, standard.rows(), standard.goal(), columns)?;
+        let basis = first_basis(alloc, columns, height)?;
+        let spare = Row::zeros(alloc, columns + height + 3)?;
+        Ok(Tableau {
+            columns,
+            height,
+            rows,
+            basis,
+            dropped: false,
+            spare,
+        })
+    }
+
     /// The move that Bland's rule names.
     pub fn bland(&self) -> Move
         ensures { result ≡ bland_move self.now }
