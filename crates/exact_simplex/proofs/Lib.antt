@@ -1,6 +1,6 @@
 pub mod Choices
 pub mod Pivots
-pub mod Tests
+pub mod Comparisons
 pub mod Ratios
 pub mod Named
 pub mod Sound
@@ -9,3 +9,4 @@ pub mod Filling
 pub mod FirstRows
 pub mod FirstTable
 pub mod Certificates
+pub mod Fractions

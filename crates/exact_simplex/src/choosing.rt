@@ -3,6 +3,7 @@
 ghost use Rattle.std.specs.Prelude.{◌≡◌, ◌≤◌, ◌<◌, ◌==◌, [], ℕ, pos, ◌*ℤ◌, ◌<ℤ◌, int_lt, not, length, unwrap_or, slice_index_or, IfSome, nat_lt};
 ghost use Rattle.std.specs.Option.{ForSome};
 ghost use Rattle.std.specs.Ordering.{int_cmp, int_eq};
+ghost use Rattle.fractions.specs.Width.{IsNarrow};
 ghost use Rattle.int_linear.specs.Sums.{at, matrix};
 ghost use Rattle.exact_simplex.specs.Bland.{by_ratio};
 ghost use Rattle.exact_simplex.specs.Choice.{first_below, best_below, better};
@@ -58,7 +59,8 @@ pub(crate) fn first_positive(row: &Row, limit: usize) -> Option<usize>
 pub(crate) fn number(rows: &[Row], i: usize, j: usize) -> i128
     requires row { i < length rows.now }
     requires column { j < length (slice_index_or rows.now i []) }
-    ensures { result ≡ matrix rows.now i j }
+    ensures value { result ≡ matrix rows.now i j }
+    ensures narrow { IsNarrow (matrix rows.now i j) }
 {
     rows[i].entry(j)
 }

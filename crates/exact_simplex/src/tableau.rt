@@ -20,6 +20,8 @@ use simplex_rows::Row;
 use std::alloc::Global;
 use std::marker::Model;
 
+mod reading;
+
 /// The tableau of a basis, which contracts see as a `Table`.
 #[derive(Drop)]
 pub struct Tableau {

@@ -17,15 +17,15 @@ invariant_of-result c =
     let height = length c.rows-height.result.now in
     let he : length c.rows-height.result.now ≡ length c.args.standard.now.rows = ap length c.rows-height.ensures in
     let rows : AreFirst c.columns-columns.result c.args.standard.now.rows c.args.standard.now.goal c.in_ok-rows.rows.items =
-        first_of_same columns c.rows.result.now c.args.standard.now.rows c.goal.result.now c.args.standard.now.goal c.in_ok-rows.rows.items c.rows.ensures c.goal.ensures c.in_ok-rows.ensures in
+    first_of_same columns c.rows.result.now c.args.standard.now.rows c.goal.result.now c.args.standard.now.goal c.in_ok-rows.rows.items c.rows.ensures c.goal.ensures c.in_ok-rows.ensures in
     let basis : IsFirstBasis c.columns-columns.result (length c.rows-height.result.now) c.in_ok-basis.basis.items = c.in_ok-basis.ensures in
     let first = made_first form columns height c.in_ok-rows.rows.items c.in_ok-basis.basis.items c.columns-columns.ensures.value he rows basis in
     let count : length c.in_ok-rows.rows.items ≡ length c.rows-height.result.now + 1 = let n = rows.count in omega arith in
     let spare : length c.in_ok-spare.spare ≡ c.columns-columns.result + length c.rows-height.result.now + 3 =
-        ap length c.in_ok-spare.ensures ∙ length-replicate (c.columns-columns.result + length c.rows-height.result.now + 3) (pos 0) in
+    ap length c.in_ok-spare.ensures ∙ length-replicate (c.columns-columns.result + length c.rows-height.result.now + 3) (pos 0) in
     record {
-        sound = first_sound form c.columns-columns.ensures.sound (made columns height c.in_ok-rows.rows.items c.in_ok-basis.basis.items) first count basis.count (made_shape form columns height c.in_ok-rows.rows.items he rows);
-        spare_width = spare;
+      sound = first_sound form c.columns-columns.ensures.sound (made columns height c.in_ok-rows.rows.items c.in_ok-basis.basis.items) first count basis.count (made_shape form columns height c.in_ok-rows.rows.items he rows);
+      spare_width = spare;
     }
 
 pub returns-clause-first : goal.returns-clause-first
@@ -35,7 +35,7 @@ returns-clause-first c =
     let height = length c.rows-height.result.now in
     let he : length c.rows-height.result.now ≡ length c.args.standard.now.rows = ap length c.rows-height.ensures in
     let rows : AreFirst c.columns-columns.result c.args.standard.now.rows c.args.standard.now.goal c.in_ok-rows.rows.items =
-        first_of_same columns c.rows.result.now c.args.standard.now.rows c.goal.result.now c.args.standard.now.goal c.in_ok-rows.rows.items c.rows.ensures c.goal.ensures c.in_ok-rows.ensures in
+    first_of_same columns c.rows.result.now c.args.standard.now.rows c.goal.result.now c.args.standard.now.goal c.in_ok-rows.rows.items c.rows.ensures c.goal.ensures c.in_ok-rows.ensures in
     made_first form columns height c.in_ok-rows.rows.items c.in_ok-basis.basis.items c.columns-columns.ensures.value he rows c.in_ok-basis.ensures
 
 pub returns-clause-tableau : goal.returns-clause-tableau
@@ -45,6 +45,6 @@ returns-clause-tableau c =
     let height = length c.rows-height.result.now in
     let he : length c.rows-height.result.now ≡ length c.args.standard.now.rows = ap length c.rows-height.ensures in
     let rows : AreFirst c.columns-columns.result c.args.standard.now.rows c.args.standard.now.goal c.in_ok-rows.rows.items =
-        first_of_same columns c.rows.result.now c.args.standard.now.rows c.goal.result.now c.args.standard.now.goal c.in_ok-rows.rows.items c.rows.ensures c.goal.ensures c.in_ok-rows.ensures in
+    first_of_same columns c.rows.result.now c.args.standard.now.rows c.goal.result.now c.args.standard.now.goal c.in_ok-rows.rows.items c.rows.ensures c.goal.ensures c.in_ok-rows.ensures in
     first_tableau form c.columns-columns.ensures.sound (made columns height c.in_ok-rows.rows.items c.in_ok-basis.basis.items)
-        (made_first form columns height c.in_ok-rows.rows.items c.in_ok-basis.basis.items c.columns-columns.ensures.value he rows c.in_ok-basis.ensures)
+    (made_first form columns height c.in_ok-rows.rows.items c.in_ok-basis.basis.items c.columns-columns.ensures.value he rows c.in_ok-basis.ensures)

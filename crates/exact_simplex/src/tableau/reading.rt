@@ -1,0 +1,89 @@
+//! What is read out of a tableau at which no exchange is due.
+
+ghost use Rattle.std.specs.Prelude.{◌≡◌, ◌≤◌, ◌+◌, ◌⊎◌, ◌++◌, ◌∷◌, [], pos, neg_ℤ, ◌<ℤ◌, length, IfOk, OnOk, if◌then◌else◌};
+ghost use Rattle.std.specs.Ordering.{int_eq};
+ghost use Rattle.fractions.specs.Fraction.{IsReduced};
+ghost use Rattle.fractions.specs.Width.{IsNarrow};
+ghost use Rattle.int_linear.specs.Sums.{at};
+ghost use Rattle.lp_frame.specs.Standard.{Standard};
+ghost use Rattle.exact_simplex.specs.Bland.{bland_move};
+ghost use Rattle.exact_simplex.specs.Equations.{IsTableauOf};
+ghost use Rattle.exact_simplex.specs.ReadOut.{entries_of, multipliers_of, BoundsForm, RefutesForm};
+ghost use Rattle.exact_simplex.specs.Table.{entry, right_side, scale as scale_column};
+
+use crate::choosing::{find_row, number};
+use crate::moves::Move;
+use crate::tableau::Tableau;
+use fractions::{Frac, Memory};
+use lp_frame::Mults;
+use simplex_rows::Row;
+use std::alloc::Global;
+
+impl Tableau {
+    /// The scale of the goal row, by which the goal is multiplied in it.
+    pub fn scale(&self) -> i128
+        requires { bland_move self.now ≡ Move.Optimal }
+        ensures value { result ≡ entry self.now self.now.height (scale_column self.now) }
+        ensures positive { pos 0 <ℤ result }
+    {
+        number(&self.rows, self.height, self.columns + self.height + 2)
+    }
+
+    /// The least value of the goal: the goal row's right side over its scale.
+    pub fn level(&self) -> Frac
+        requires { bland_move self.now ≡ Move.Optimal }
+        ensures { IsReduced (right_side self.now self.now.height) (entry self.now self.now.height (scale_column self.now)) result }
+    {
+        let right = number(&self.rows, self.height, self.columns + self.height + 1);
+        let scale = number(&self.rows, self.height, self.columns + self.height + 2);
+        fraction(right, scale)
+    }
+
+    /// The multipliers of the rows, without zeros, rows ascending. At an optimal tableau they bound the goal by its
+    /// level, and at an infeasible one they refute the standard form.
+    pub fn multipliers(&self, alloc: Global) -> Result<Mults, Memory>
+        requires { (bland_move self.now ≡ Move.Optimal) ⊎ (bland_move self.now ≡ Move.Infeasible) }
+        ensures value { IfOk result (λ multipliers. multipliers ≡ multipliers_of self.now) }
+        ensures optimal { IfOk result (λ multipliers. (form : Standard) → IsTableauOf form self.now → bland_move self.now ≡ Move.Optimal → BoundsForm form (right_side self.now self.now.height) (entry self.now self.now.height (scale_column self.now)) multipliers) }
+        ensures infeasible { IfOk result (λ multipliers. (form : Standard) → IsTableauOf form self.now → bland_move self.now ≡ Move.Infeasible → RefutesForm form multipliers) }
+    {
+        let row = find_row(&self.basis, self.height, self.columns + self.height);
+        slack_entries(alloc, &self.rows[row], self.columns, self.height)
+    }
+}
+
+// The fraction of a narrow number over a positive narrow one.
+fn fraction(num: i128, den: i128) -> Frac
+    requires num { IsNarrow num }
+    requires den { IsNarrow den }
+    requires positive { pos 0 <ℤ den }
+    ensures { IsReduced num den result }
+{
+    Frac::new(num, den).unwrap()
+}
+
+// Minus the entries in the slack columns, without zeros.
+fn slack_entries(alloc: Global, row: &Row, columns: usize, height: usize) -> Result<Mults, Memory>
+    requires columns { columns ≤ 4000 }
+    requires height { height ≤ 4000 }
+    requires within { columns + height ≤ length row.now }
+    ensures { IfOk result (λ multipliers. multipliers ≡ entries_of height (λ k. neg_ℤ (at row.now (columns + k)))) }
+{
+    let mut multipliers = Mults::new(alloc);
+    for k in 0..height {
+        push_entry(alloc, &mut multipliers, k, row.entry(columns + k))?;
+    }
+    Ok(multipliers)
+}
+
+// Adds minus this number at place k, unless it is 0.
+fn push_entry(alloc: Global, multipliers: &mut Mults, k: usize, value: i128) -> Result<(), Memory>
+    requires place { k ≤ 4000 }
+    requires narrow { IsNarrow value }
+    ensures { OnOk result (multipliers.new ≡ multipliers.old ++ (if int_eq (neg_ℤ value) (pos 0) then [] else (k, neg_ℤ value) ∷ [])) }
+{
+    if value == 0 {
+        return Ok(());
+    }
+    multipliers.push(alloc, (k as u32, -value))
+}
