@@ -1,7 +1,7 @@
 -- A run, one move longer.
-use Rattle.std.proofs.Common.{◌≡◌, ◌+◌, ◌++◌, ℕ, ℤ, List, [], ◌∷◌, length, map, refl, ap, sym, ◌∙◌, subst, arith, append_assoc, length-append}
+use Rattle.std.proofs.Common.{◌≡◌, ◌++◌, ℕ, List, [], ◌∷◌, map, refl, ap, sym, ◌∙◌, subst, arith, append_assoc, length-append}
 use Rattle.exact_simplex.specs.declared.log.Event.{Event}
-use Rattle.exact_simplex.specs.Table.{Table, IsTableauFor}
+use Rattle.exact_simplex.specs.Table.{Table}
 use Rattle.exact_simplex.specs.Log.{LogOf}
 use Rattle.exact_simplex.specs.Run.{Pair, IsMoved, IsPath, HasRun, HasTurned, logged}
 

@@ -1,6 +1,6 @@
 -- The tableau as data. Its columns are, in this order: the structural ones, a slack for each row, the artificial,
 -- the right side and the goal's scale. Its rows are one for each row of the standard form, and last the goal row.
-use Rattle.std.specs.Prelude.{◌≡◌, ◌≢◌, ◌<◌, ◌≤◌, ◌+◌, ◌==◌, ℕ, ℤ, pos, negsuc, ◌<ℤ◌, ◌≤ℤ◌, Bool, true, false, List, length, slice_index_or, int_lt, if◌then◌else◌}
+use Rattle.std.specs.Prelude.{◌≡◌, ◌<◌, ◌≤◌, ◌+◌, ◌==◌, ℕ, ℤ, pos, negsuc, ◌<ℤ◌, Bool, List, length, slice_index_or, int_lt, if◌then◌else◌}
 use Rattle.int_linear.specs.Sums.{matrix}
 use Rattle.simplex_rows.specs.Dropped.{all_without}
 use Rattle.simplex_rows.specs.Matrix.{IsRectangle}

@@ -1,4 +1,4 @@
-use Rattle.std.proofs.Common.{◌≡◌, ◌<◌, ℕ, pos, not, true, arith, sym, rules}
+use Rattle.std.proofs.Common.{◌≡◌, pos, not, true, arith, sym, rules}
 use Rattle.std.specs.Ordering.{int_eq}
 use Rattle.int_linear.specs.Sums.{at}
 use Rattle.exact_simplex.proofs.Choices.{first_is, first_nothing}

@@ -1,4 +1,4 @@
-use Rattle.std.proofs.Common.{◌≡◌, ◌<◌, ℕ, pos, int_lt, true, arith, sym, rules}
+use Rattle.std.proofs.Common.{◌≡◌, pos, int_lt, true, arith, sym, rules}
 use Rattle.int_linear.specs.Sums.{at}
 use Rattle.exact_simplex.proofs.Choices.{first_is, first_nothing}
 use Rattle.exact_simplex.proofs.choosing.first_positive.Goals as goal

@@ -1,5 +1,4 @@
 use Rattle.std.proofs.Common.{pos, int_lt}
-use Rattle.std.specs.Ordering.{int_eq}
 use Rattle.int_linear.specs.Sums.{at}
 use Rattle.exact_simplex.proofs.Choices.{NonePass}
 use Rattle.exact_simplex.proofs.choosing.first_positive.Given as goal

@@ -1,5 +1,5 @@
-use Rattle.std.proofs.Common.{◌≡◌, ◌≢◌, ◌<◌, ℕ, ℤ, pos, List, [], length, get_or, set, slice_index_or, Bool, true, cond, arith, refl, ap, sym, ◌∙◌, subst}
-use Rattle.std.proofs.lemmas.List.{get_or_default, get_or-set_same, get_or-set_other, length-set}
+use Rattle.std.proofs.Common.{◌≡◌, ◌≢◌, ◌<◌, ℕ, ℤ, List, [], length, set, slice_index_or, Bool, cond, arith, ap, sym, ◌∙◌, subst}
+use Rattle.std.proofs.lemmas.List.{get_or_default, get_or-set_same, get_or-set_other}
 use Rattle.int_linear.specs.Sums.{at, matrix}
 use Rattle.simplex_rows.specs.Dropped.{without}
 use Rattle.simplex_rows.specs.Steps.{IsPivotRow}

@@ -1,4 +1,4 @@
-use Rattle.std.proofs.Common.{◌≡◌, ◌≢◌, ◌<◌, ◌+◌, ◌==◌, ◌||◌, ◌++◌, ℕ, ℤ, List, length, take, drop, set, slice_index_or, unwrap_or, Bool, arith, refl, ap, sym, ◌∙◌, subst}
+use Rattle.std.proofs.Common.{◌≡◌, ◌+◌, ◌==◌, ◌||◌, ◌++◌, ℕ, ℤ, List, length, take, drop, set, slice_index_or, unwrap_or, Bool, refl, ap, sym, ◌∙◌, subst}
 use Rattle.int_linear.specs.Sums.{matrix}
 use Rattle.simplex_rows.specs.Matrix.{IsRectangle}
 use Rattle.simplex_rows.specs.Tableau.{IsExchange}

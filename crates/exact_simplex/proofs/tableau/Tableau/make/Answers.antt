@@ -1,8 +1,7 @@
-use Rattle.std.proofs.Common.{◌≡◌, ◌+◌, ℕ, ℤ, pos, List, length, replicate, arith, ap, sym, ◌∙◌, subst}
+use Rattle.std.proofs.Common.{◌≡◌, ◌+◌, ℕ, ℤ, pos, List, length, arith, ap, ◌∙◌, subst}
 use Rattle.std.proofs.lemmas.List.{length-replicate}
 use Rattle.lp_frame.specs.declared.force.AtMost.{AtMost}
-use Rattle.exact_simplex.specs.Table.{IsSoundWith}
-use Rattle.exact_simplex.specs.Equations.{IsTableauOf, IsFirstTable, AreFirst, IsFirstBasis}
+use Rattle.exact_simplex.specs.Equations.{AreFirst, IsFirstBasis}
 use Rattle.exact_simplex.proofs.FirstTable.{first_tableau, first_sound, made, made_first, made_shape}
 use Rattle.exact_simplex.proofs.tableau.Tableau.make.Goals as goal
 

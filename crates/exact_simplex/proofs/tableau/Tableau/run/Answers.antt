@@ -1,4 +1,4 @@
-use Rattle.std.proofs.Common.{◌≡◌, ◌+◌, refl, sym, ap, subst, arith}
+use Rattle.std.proofs.Common.{refl, arith}
 use Rattle.exact_simplex.proofs.Runs.{run_none, run_more}
 use Rattle.exact_simplex.proofs.tableau.Tableau.run.Goals as goal
 

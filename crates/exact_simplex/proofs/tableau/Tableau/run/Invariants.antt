@@ -1,4 +1,4 @@
-use Rattle.std.proofs.Common.{◌≡◌, ◌+◌, ◌≤◌, ℕ, ℤ}
+use Rattle.std.proofs.Common.{◌≡◌, ◌+◌, ℕ, ℤ}
 use Rattle.exact_simplex.specs.Table.{IsTableauFor}
 use Rattle.exact_simplex.specs.Run.{HasRun}
 use Rattle.exact_simplex.proofs.tableau.Tableau.run.Given as goal
