@@ -7,7 +7,9 @@ ghost use Rattle.simplex_rows.specs.Steps.{IsStepped, IsDivided, IsCopy, IsPrimi
 ghost use Rattle.simplex_rows.specs.Dropped.{without};
 ghost use Rattle.simplex_rows.specs.Width.{IsNarrowBy, IsFirstWideBy, IsNarrowStepOf, IsFirstWideStep, IsNarrowRow};
 
-use crate::steps::{divisor_with, entry_quotient, factors, has_step, is_narrow_step, is_negative, step_entry};
+use crate::steps::{
+    divisor_with, entry_quotient, factors, has_step, is_narrow_step, is_negative, step_entry,
+};
 
 /// The greatest common divisor of the entries, left as soon as it is 1.
 pub(crate) fn row_gcd(entries: &[i128]) -> u128
