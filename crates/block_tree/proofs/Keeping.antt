@@ -1,5 +1,5 @@
 -- What a builder keeps: each call leaves it whole.
-use Rattle.std.proofs.Common.{◌≡◌, ◌⊎◌, inl, inr, ℕ, zero, suc, ◌+◌, ◌≤◌, ◌<◌, Bool, true, false, not, ◌&&◌, ◌||◌, List, [], ◌∷◌, ◌++◌, length, map, Option, Some, None, Result, Ok, Err, refl, ap, sym, ◌∙◌, subst, arith, rules, nat_lt, nat_le, nat_eq, ◌==◌, ℤ, is_some, is_none, if◌then◌else◌, length-append}
+use Rattle.std.proofs.Common.{◌≡◌, ◌⊎◌, inl, inr, ℕ, zero, suc, ◌+◌, ◌≤◌, ◌<◌, Bool, true, false, not, ◌&&◌, ◌||◌, List, [], ◌∷◌, ◌++◌, length, map, Option, Some, None, Result, Ok, Err, refl, ap, sym, ◌∙◌, subst, arith, rules, nat_lt, nat_le, nat_eq, ◌==◌, ℤ, pos, int_lt, is_some, is_none, if◌then◌else◌, length-append}
 use Rattle.std.proofs.lemmas.List.{length-map, map-append}
 use Rattle.std.proofs.lemmas.Bool.Decides.{nat_tests}
 use Rattle.std.specs.List.{list_all, list_any}
@@ -9,14 +9,15 @@ use Rattle.fractions.specs.Memory.{Acts, unless, refuse_if}
 use Rattle.lp_rows.specs.declared.kinds.Kind.{Kind}
 use Rattle.lp_rows.specs.declared.kinds.Rel.{Rel}
 use Rattle.lp_rows.specs.Holding.{ids_below}
-use Rattle.lp_rows.specs.Rows.{RowValue}
+use Rattle.lp_rows.specs.Rows.{RowValue, is_storable, row_refusal}
 use Rattle.block_tree.specs.declared.bounds.Bound.{Bound}
 use Rattle.block_tree.specs.declared.errors.BuildError.{BuildError}
 use Rattle.block_tree.specs.declared.errors.BuildError.TheVariants.{Place, NameTwice, NameUnknown, Number, Limit, Missing, Unclosed}
-use Rattle.block_tree.specs.Building.{OpenBlock, OpenDisjunction, BuildingValue, new_building, is_empty, is_at_root, is_taken, is_bound, refusal_of_var, var_outcome, refusal_of_terms, refusal_of_row, row_outcome, are_ids_below, are_numbers, stored_row, rows_so_far, refusal_of_finish, built_model, closed_block}
+use Rattle.block_tree.specs.Building.{OpenBlock, OpenDisjunction, BuildingValue, new_building, is_empty, is_at_root, is_taken, is_bound, refusal_of_var, var_outcome, refusal_of_terms, refusal_of_row, row_outcome, are_ids_below, are_numbers, stored_row, rows_so_far, refusal_of_finish, built_model, closed_block, goal_of}
 use Rattle.block_tree.specs.Names.{has_name, is_name}
 use Rattle.block_tree.specs.Scaling.{insert_term, sorted_among, sorted_terms, scaled, scaled_terms, stored_terms, scale_of, has_id_twice}
-use Rattle.block_tree.specs.Sound.{are_names, names_of, are_rows_below, is_block_below, are_disjunctions_below, are_disjuncts_below, is_open_below, is_opened_below, are_around_below, is_building_below, IsSound, IsWhole}
+use Rattle.block_tree.specs.Sound.{are_names, names_of, are_rows_below, is_filled, is_block_sound, are_disjunctions_sound, are_disjuncts_sound, is_open_sound, is_opened_sound, is_placed, are_around_sound, is_goal_sound, is_given_sound, IsSound, IsWhole}
+use Rattle.block_tree.specs.Values.{GoalValue}
 use Rattle.block_tree.specs.Tree.{BlockTree, block, Disjunctions, no_disjunctions, disjunction, Disjuncts, no_disjuncts, disjunct}
 use Rattle.block_tree.specs.View.{disjuncts, disjunctions}
 
@@ -70,7 +71,7 @@ has_middle n m [] ys h e = rw e h
 has_middle n m (x ∷ xs) ys h e =
     let p = neither (bytes_eq n x) (has_name n (xs ++ ys)) h in rw p.0 (has_middle n m xs ys p.1 e)
 
-has_append : (n : List ℕ) (xs ys : List (List ℕ)) → (has_name n xs || has_name n ys) ≡ has_name n (xs ++ ys)
+pub has_append : (n : List ℕ) (xs ys : List (List ℕ)) → (has_name n xs || has_name n ys) ≡ has_name n (xs ++ ys)
 has_append n [] ys = refl
 has_append n (x ∷ xs) ys = or_assoc (bytes_eq n x) (has_name n xs) (has_name n ys) ∙ ap (λ b. bytes_eq n x || b) (has_append n xs ys)
   where
@@ -98,70 +99,96 @@ names_middle n (x ∷ xs) ys i h a =
     (and_true (is_name x) (not (has_name x (xs ++ n ∷ ys))) r.0 (is_not (has_name x (xs ++ n ∷ ys)) k))
     (names_middle n xs ys i p.1 q.1)
 
--- rows: with more variables they name variables still
+-- with more variables and Booleans what is named is there still
 
-lt_more : (i n : ℕ) → nat_lt i n ≡ true → nat_lt i (n + 1) ≡ true
-lt_more i n h = grind (arith, nat_tests)
+lt_more : (i n k : ℕ) → n ≤ k → nat_lt i n ≡ true → nat_lt i k ≡ true
+lt_more i n k l h = grind (arith, nat_tests)
 
-ids_more : (n : ℕ) (ts : List (ℕ × ℤ)) → ids_below n ts ≡ true → ids_below (n + 1) ts ≡ true
-ids_more n [] h = refl
-ids_more n (t ∷ ts) h =
+ids_more : (n k : ℕ) (ts : List (ℕ × ℤ)) → n ≤ k → ids_below n ts ≡ true → ids_below k ts ≡ true
+ids_more n k [] l h = refl
+ids_more n k (t ∷ ts) l h =
     let p = both (nat_lt t.0 n) (ids_below n ts) h in
-    and_true (nat_lt t.0 (n + 1)) (ids_below (n + 1) ts) (lt_more t.0 n p.0) (ids_more n ts p.1)
+    and_true (nat_lt t.0 k) (ids_below k ts) (lt_more t.0 n k l p.0) (ids_more n k ts l p.1)
 
-rows_more : (n : ℕ) (rows : List (RowValue × ℕ)) → are_rows_below n rows ≡ true → are_rows_below (n + 1) rows ≡ true
-rows_more n [] h = refl
-rows_more n (r ∷ rs) h =
+rows_more : (n k : ℕ) (rows : List (RowValue × ℕ)) → n ≤ k → are_rows_below n rows ≡ true → are_rows_below k rows ≡ true
+rows_more n k [] l h = refl
+rows_more n k (r ∷ rs) l h =
     let p = both (ids_below n r.0.terms) (are_rows_below n rs) h in
-    and_true (ids_below (n + 1) r.0.terms) (are_rows_below (n + 1) rs) (ids_more n r.0.terms p.0) (rows_more n rs p.1)
+    and_true (ids_below k r.0.terms) (are_rows_below k rs) (ids_more n k r.0.terms l p.0) (rows_more n k rs l p.1)
 
 mutual
-  block_more : (n : ℕ) (b : BlockTree) → is_block_below n b ≡ true → is_block_below (n + 1) b ≡ true
-  block_more n (block items ds) h =
-      let p = both (are_rows_below n items.rows) (are_disjunctions_below n ds) h in
-      and_true (are_rows_below (n + 1) items.rows) (are_disjunctions_below (n + 1) ds) (rows_more n items.rows p.0) (disjunctions_more n ds p.1)
+  block_more : (n k m j : ℕ) (b : BlockTree) → n ≤ k → m ≤ j → is_block_sound n m b ≡ true → is_block_sound k j b ≡ true
+  block_more n k m j (block items ds) l q h =
+      let p = both (are_rows_below n items.rows) (are_disjunctions_sound n m ds) h in
+      and_true (are_rows_below k items.rows) (are_disjunctions_sound k j ds) (rows_more n k items.rows l p.0) (disjunctions_more n k m j ds l q p.1)
 
-  disjunctions_more : (n : ℕ) (ds : Disjunctions) → are_disjunctions_below n ds ≡ true → are_disjunctions_below (n + 1) ds ≡ true
-  disjunctions_more n no_disjunctions h = refl
-  disjunctions_more n (disjunction head js ds) h =
-      let p = both (are_disjuncts_below n js) (are_disjunctions_below n ds) h in
-      and_true (are_disjuncts_below (n + 1) js) (are_disjunctions_below (n + 1) ds) (disjuncts_more n js p.0) (disjunctions_more n ds p.1)
+  disjunctions_more : (n k m j : ℕ) (ds : Disjunctions) → n ≤ k → m ≤ j → are_disjunctions_sound n m ds ≡ true → are_disjunctions_sound k j ds ≡ true
+  disjunctions_more n k m j no_disjunctions l q h = refl
+  disjunctions_more n k m j (disjunction head js ds) l q h =
+      let p = both (is_filled js && are_disjuncts_sound n m js) (are_disjunctions_sound n m ds) h in
+      let r = both (is_filled js) (are_disjuncts_sound n m js) p.0 in
+      and_true (is_filled js && are_disjuncts_sound k j js) (are_disjunctions_sound k j ds)
+      (and_true (is_filled js) (are_disjuncts_sound k j js) r.0 (disjuncts_more n k m j js l q r.1)) (disjunctions_more n k m j ds l q p.1)
 
-  disjuncts_more : (n : ℕ) (js : Disjuncts) → are_disjuncts_below n js ≡ true → are_disjuncts_below (n + 1) js ≡ true
-  disjuncts_more n no_disjuncts h = refl
-  disjuncts_more n (disjunct head b js) h =
-      let p = both (is_block_below n b) (are_disjuncts_below n js) h in
-      and_true (is_block_below (n + 1) b) (are_disjuncts_below (n + 1) js) (block_more n b p.0) (disjuncts_more n js p.1)
+  pub disjuncts_more : (n k m j : ℕ) (js : Disjuncts) → n ≤ k → m ≤ j → are_disjuncts_sound n m js ≡ true → are_disjuncts_sound k j js ≡ true
+  disjuncts_more n k m j no_disjuncts l q h = refl
+  disjuncts_more n k m j (disjunct head b js) l q h =
+      let p = both (nat_lt head.indicator m && is_block_sound n m b) (are_disjuncts_sound n m js) h in
+      let r = both (nat_lt head.indicator m) (is_block_sound n m b) p.0 in
+      and_true (nat_lt head.indicator j && is_block_sound k j b) (are_disjuncts_sound k j js)
+      (and_true (nat_lt head.indicator j) (is_block_sound k j b) (lt_more head.indicator m j q r.0) (block_more n k m j b l q r.1)) (disjuncts_more n k m j js l q p.1)
 
-open_more : (n : ℕ) (o : OpenBlock) → is_open_below n o ≡ true → is_open_below (n + 1) o ≡ true
-open_more n o h =
-    let p = both (are_rows_below n o.rows) (are_disjunctions_below n (disjunctions o.closed)) h in
-    and_true (are_rows_below (n + 1) o.rows) (are_disjunctions_below (n + 1) (disjunctions o.closed)) (rows_more n o.rows p.0) (disjunctions_more n (disjunctions o.closed) p.1)
+pub open_more : (n k m j : ℕ) (o : OpenBlock) → n ≤ k → m ≤ j → is_open_sound n m o ≡ true → is_open_sound k j o ≡ true
+open_more n k m j o l q h =
+    let p = both (are_rows_below n o.rows) (are_disjunctions_sound n m (disjunctions o.closed)) h in
+    and_true (are_rows_below k o.rows) (are_disjunctions_sound k j (disjunctions o.closed)) (rows_more n k o.rows l p.0) (disjunctions_more n k m j (disjunctions o.closed) l q p.1)
 
-opened_more : (n : ℕ) (d : Option OpenDisjunction) → is_opened_below n d ≡ true → is_opened_below (n + 1) d ≡ true
-opened_more n None h = refl
-opened_more n (Some d) h = disjuncts_more n (disjuncts d.closed) h
+pub opened_more : (n k m j : ℕ) (d : Option OpenDisjunction) → n ≤ k → m ≤ j → is_opened_sound n m d ≡ true → is_opened_sound k j d ≡ true
+opened_more n k m j None l q h = refl
+opened_more n k m j (Some d) l q h = disjuncts_more n k m j (disjuncts d.closed) l q h
 
-around_more : (n : ℕ) (os : List (OpenBlock × OpenDisjunction)) → are_around_below n os ≡ true → are_around_below (n + 1) os ≡ true
-around_more n [] h = refl
-around_more n (o ∷ os) h =
-    let p = both (is_open_below n o.0 && are_disjuncts_below n (disjuncts o.1.closed)) (are_around_below n os) h in
-    let q = both (is_open_below n o.0) (are_disjuncts_below n (disjuncts o.1.closed)) p.0 in
-    and_true (is_open_below (n + 1) o.0 && are_disjuncts_below (n + 1) (disjuncts o.1.closed)) (are_around_below (n + 1) os)
-    (and_true (is_open_below (n + 1) o.0) (are_disjuncts_below (n + 1) (disjuncts o.1.closed)) (open_more n o.0 q.0) (disjuncts_more n (disjuncts o.1.closed) q.1))
-    (around_more n os p.1)
+or_more : (a b c : Bool) → (b ≡ true → c ≡ true) → (a || b) ≡ true → (a || c) ≡ true
+or_more true b c f h = refl
+or_more false b c f h = f h
 
-building_more : (n : ℕ) (b : BuildingValue) → is_building_below n b ≡ true → is_building_below (n + 1) b ≡ true
-building_more n b h =
-    let p = both (is_open_below n b.inner && is_opened_below n b.opened) (are_around_below n b.outer) h in
-    let q = both (is_open_below n b.inner) (is_opened_below n b.opened) p.0 in
-    and_true (is_open_below (n + 1) b.inner && is_opened_below (n + 1) b.opened) (are_around_below (n + 1) b.outer)
-    (and_true (is_open_below (n + 1) b.inner) (is_opened_below (n + 1) b.opened) (open_more n b.inner q.0) (opened_more n b.opened q.1))
-    (around_more n b.outer p.1)
+pub placed_more : (m j : ℕ) (o : OpenBlock) (os : List (OpenBlock × OpenDisjunction)) → m ≤ j → is_placed m o os ≡ true → is_placed j o os ≡ true
+placed_more m j o os q h = or_more (is_empty os) (nat_lt o.indicator m) (nat_lt o.indicator j) (lt_more o.indicator m j q) h
+
+-- the four parts of what is around
+pub around_parts : (n m : ℕ) (o : OpenBlock × OpenDisjunction) (os : List (OpenBlock × OpenDisjunction)) → are_around_sound n m (o ∷ os) ≡ true
+    → (is_open_sound n m o.0 ≡ true) × (are_disjuncts_sound n m (disjuncts o.1.closed) ≡ true) × (is_placed m o.0 os ≡ true) × (are_around_sound n m os ≡ true)
+around_parts n m o os h =
+    let p = both (is_open_sound n m o.0 && are_disjuncts_sound n m (disjuncts o.1.closed) && is_placed m o.0 os) (are_around_sound n m os) h in
+    let q = both (is_open_sound n m o.0 && are_disjuncts_sound n m (disjuncts o.1.closed)) (is_placed m o.0 os) p.0 in
+    let r = both (is_open_sound n m o.0) (are_disjuncts_sound n m (disjuncts o.1.closed)) q.0 in (r.0, r.1, q.1, p.1)
+
+pub around_whole : (n m : ℕ) (o : OpenBlock × OpenDisjunction) (os : List (OpenBlock × OpenDisjunction)) → is_open_sound n m o.0 ≡ true
+    → are_disjuncts_sound n m (disjuncts o.1.closed) ≡ true → is_placed m o.0 os ≡ true → are_around_sound n m os ≡ true → are_around_sound n m (o ∷ os) ≡ true
+around_whole n m o os a b c d =
+    and_true (is_open_sound n m o.0 && are_disjuncts_sound n m (disjuncts o.1.closed) && is_placed m o.0 os) (are_around_sound n m os)
+    (and_true (is_open_sound n m o.0 && are_disjuncts_sound n m (disjuncts o.1.closed)) (is_placed m o.0 os)
+    (and_true (is_open_sound n m o.0) (are_disjuncts_sound n m (disjuncts o.1.closed)) a b) c) d
+
+pub around_more : (n k m j : ℕ) (os : List (OpenBlock × OpenDisjunction)) → n ≤ k → m ≤ j → are_around_sound n m os ≡ true → are_around_sound k j os ≡ true
+around_more n k m j [] l q h = refl
+around_more n k m j (o ∷ os) l q h =
+    let p = around_parts n m o os h in
+    around_whole k j o os (open_more n k m j o.0 l q p.0) (disjuncts_more n k m j (disjuncts o.1.closed) l q p.1) (placed_more m j o.0 os q p.2) (around_more n k m j os l q p.3)
+
+goal_more : (n k : ℕ) (g : GoalValue) → n ≤ k → is_goal_sound n g ≡ true → is_goal_sound k g ≡ true
+goal_more n k g l h = first_more (ids_below n g.terms) (ids_below k g.terms) (is_none (row_refusal g.terms g.constant)) (int_lt (pos 0) g.scale) (is_storable g.scale) (ids_more n k g.terms l) h
+  where
+    first_more : (a b c d e : Bool) → (a ≡ true → b ≡ true) → (a && c && d && e) ≡ true → (b && c && d && e) ≡ true
+    first_more true b c d e f q = rw (f refl) q
+    first_more false b c d e f q = cc
+
+pub given_more : (n k : ℕ) (g : Option GoalValue) → n ≤ k → is_given_sound n g ≡ true → is_given_sound k g ≡ true
+given_more n k None l h = refl
+given_more n k (Some g) l h = goal_more n k g l h
 
 -- a variable
 
-below_limit : (most n : ℕ) → nat_le most n ≡ false → n + 1 ≤ most
+pub below_limit : (most n : ℕ) → nat_le most n ≡ false → n + 1 ≤ most
 below_limit most n h = grind (arith, nat_tests)
 
 pub var_keeps_whole : (name : List ℕ) (kind : Kind) (bound : Bound) (mark : ℕ) (b : BuildingValue) → IsWhole b → IsWhole (var_outcome name kind bound mark b).1
@@ -173,14 +200,19 @@ var_keeps_whole name kind bound mark b w =
     let s = refuses_not (nat_le 500 (length b.vars) || not (is_name name)) Limit None r.1 in
     let t = neither (nat_le 500 (length b.vars)) (not (is_name name)) s.0 in
     let f = sym (has_append name (map (λ v. v.0) b.vars) (map (λ v. v.0) b.booleans)) ∙ q.0 in
+    let e : length (b.vars ++ (name, kind, bound, mark) ∷ []) ≡ length b.vars + 1 = length-append b.vars ((name, kind, bound, mark) ∷ []) in
     record {
-      few_variables = rw (length-append b.vars ((name, kind, bound, mark) ∷ [])) (below_limit 500 (length b.vars) t.0);
+      few_variables = rw e (below_limit 500 (length b.vars) t.0);
       few_booleans = w.few_booleans;
       few_rows = w.few_rows;
+      goal = rw e (given_more (length b.vars) (length b.vars + 1) b.goal (omega arith) w.goal);
+      inner = rw e (open_more (length b.vars) (length b.vars + 1) (length b.booleans) (length b.booleans) b.inner (omega arith) (omega arith) w.inner);
+      opened = rw e (opened_more (length b.vars) (length b.vars + 1) (length b.booleans) (length b.booleans) b.opened (omega arith) (omega arith) w.opened);
+      placed = w.placed;
+      outer = rw e (around_more (length b.vars) (length b.vars + 1) (length b.booleans) (length b.booleans) b.outer (omega arith) (omega arith) w.outer);
       names = rw (map-append (λ v. v.0) b.vars ((name, kind, bound, mark) ∷ []))
           (rw (append_one (map (λ v. v.0) b.vars) name (map (λ v. v.0) b.booleans))
           (names_middle name (map (λ v. v.0) b.vars) (map (λ v. v.0) b.booleans) (not_false (is_name name) t.1) f w.names));
-      rows = rw (length-append b.vars ((name, kind, bound, mark) ∷ [])) (building_more (length b.vars) b w.rows);
     })
   where
     append_one : {A : Type 0} (xs : List A) (y : A) (ys : List A) → (xs ++ y ∷ []) ++ ys ≡ xs ++ y ∷ ys
@@ -202,13 +234,13 @@ ids_inserted n t (u ∷ us) h =
     ids_put (nat_lt t.0 u.0) n t u us h
     (and_true (nat_lt u.0 n) (are_ids_below n (insert_term t us)) q.0 (ids_inserted n t us (and_true (nat_lt t.0 n) (are_ids_below n us) p.0 q.1)))
 
-ids_sorted : {A : Type 0} (n : ℕ) (placed ts : List (ℕ × A)) → are_ids_below n placed ≡ true → are_ids_below n ts ≡ true → are_ids_below n (sorted_among placed ts) ≡ true
+pub ids_sorted : {A : Type 0} (n : ℕ) (placed ts : List (ℕ × A)) → are_ids_below n placed ≡ true → are_ids_below n ts ≡ true → are_ids_below n (sorted_among placed ts) ≡ true
 ids_sorted n placed [] p q = p
 ids_sorted n placed (t ∷ ts) p q =
     let h = both (nat_lt t.0 n) (are_ids_below n ts) q in
     ids_sorted n (insert_term t placed) ts (ids_inserted n t placed (and_true (nat_lt t.0 n) (are_ids_below n placed) h.0 p)) h.1
 
-ids_scaled : (n k : ℕ) (ts : List (ℕ × Fraction)) → ids_below n (scaled_terms k ts) ≡ are_ids_below n ts
+pub ids_scaled : (n k : ℕ) (ts : List (ℕ × Fraction)) → ids_below n (scaled_terms k ts) ≡ are_ids_below n ts
 ids_scaled n k [] = refl
 ids_scaled n k (t ∷ ts) = ap (λ b. nat_lt t.0 n && b) (ids_scaled n k ts)
 
@@ -228,9 +260,7 @@ row_keeps_whole terms rel right mark b w =
     ids_scaled (length b.vars) k (sorted_terms terms) ∙ ids_sorted (length b.vars) [] terms refl (not_false (are_ids_below (length b.vars) terms) r.0) in
     let e : length (b.inner.rows ++ (row, mark) ∷ []) ≡ length b.inner.rows + 1 = length-append b.inner.rows ((row, mark) ∷ []) in
     let m = below_limit 1000 (rows_so_far b) t.0 in
-    let u = both (is_open_below (length b.vars) b.inner && is_opened_below (length b.vars) b.opened) (are_around_below (length b.vars) b.outer) w.rows in
-    let v = both (is_open_below (length b.vars) b.inner) (is_opened_below (length b.vars) b.opened) u.0 in
-    let x = both (are_rows_below (length b.vars) b.inner.rows) (are_disjunctions_below (length b.vars) (disjunctions b.inner.closed)) v.0 in
+    let x = both (are_rows_below (length b.vars) b.inner.rows) (are_disjunctions_sound (length b.vars) (length b.booleans) (disjunctions b.inner.closed)) w.inner in
     let y : are_rows_below (length b.vars) (b.inner.rows ++ (row, mark) ∷ []) ≡ true =
     all_append (λ a. ids_below (length b.vars) a.0.terms) b.inner.rows ((row, mark) ∷ []) x.0 (and_true (ids_below (length b.vars) row.terms) true ids refl) in
     record {
@@ -238,30 +268,44 @@ row_keeps_whole terms rel right mark b w =
       few_booleans = w.few_booleans;
       few_rows = omega (arith, e, m);
       names = w.names;
-      rows = and_true (is_open_below (length b.vars) next.inner && is_opened_below (length b.vars) b.opened) (are_around_below (length b.vars) b.outer)
-          (and_true (is_open_below (length b.vars) next.inner) (is_opened_below (length b.vars) b.opened)
-          (and_true (are_rows_below (length b.vars) next.inner.rows) (are_disjunctions_below (length b.vars) (disjunctions b.inner.closed)) y x.1) v.1)
-          u.1;
+      goal = w.goal;
+      inner = and_true (are_rows_below (length b.vars) next.inner.rows) (are_disjunctions_sound (length b.vars) (length b.booleans) (disjunctions b.inner.closed)) y x.1;
+      opened = w.opened;
+      placed = w.placed;
+      outer = w.outer;
     })
 
 -- the builder that is new, and the model that is made
 
 pub new_is_whole : IsWhole new_building
-new_is_whole = record { few_variables = omega arith; few_booleans = omega arith; few_rows = omega arith; names = refl; rows = refl }
+new_is_whole = record {
+  few_variables = omega arith;
+  few_booleans = omega arith;
+  few_rows = omega arith;
+  names = refl;
+  goal = refl;
+  inner = refl;
+  opened = refl;
+  placed = refl;
+  outer = refl;
+}
+
+goal_is_sound : (n : ℕ) (g : Option GoalValue) → is_given_sound n g ≡ true → is_goal_sound n (goal_of g) ≡ true
+goal_is_sound n None h = refl
+goal_is_sound n (Some g) h = h
 
 pub built_is_sound : (b : BuildingValue) → IsWhole b → refusal_of_finish b ≡ None → IsSound (built_model b)
 built_is_sound b w h =
     let p = refuses_not (not (is_at_root b)) Unclosed (refuse_if (is_empty b.vars) Missing None) h in
     let q = refuses_not (is_empty b.vars) Missing None p.1 in
-    let u = both (is_open_below (length b.vars) b.inner && is_opened_below (length b.vars) b.opened) (are_around_below (length b.vars) b.outer) w.rows in
-    let v = both (is_open_below (length b.vars) b.inner) (is_opened_below (length b.vars) b.opened) u.0 in
     record {
       some_variable = q.0;
       few_variables = w.few_variables;
       few_booleans = w.few_booleans;
       few_rows = omega (arith, w.few_rows);
       names = w.names;
-      rows = v.0;
+      goal = goal_is_sound (length b.vars) b.goal w.goal;
+      root = w.inner;
     }
 
 pub var_keeps_rows : (name : List ℕ) (kind : Kind) (bound : Bound) (mark : ℕ) (b : BuildingValue) → rows_so_far (var_outcome name kind bound mark b).1 ≡ rows_so_far b

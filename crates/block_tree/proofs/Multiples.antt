@@ -326,7 +326,7 @@ refused_above n ts f below v e h = by_tests (has_id_twice ts) (not (are_ids_belo
     by_tests false false false q = cc
 
 -- stored terms and a stored number make a row
-ascends_scaled : (k least : ℕ) (ts : List (ℕ × Fraction)) → ascends_from least (scaled_terms k ts) ≡ ascends_from least ts
+pub ascends_scaled : (k least : ℕ) (ts : List (ℕ × Fraction)) → ascends_from least (scaled_terms k ts) ≡ ascends_from least ts
 ascends_scaled k least [] = refl
 ascends_scaled k least (t ∷ ts) = ap (λ b. nat_le least t.0 && b) (ascends_scaled k (suc t.0) ts)
 

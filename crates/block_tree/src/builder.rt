@@ -5,6 +5,13 @@ ghost use Rattle.std.specs.Str.{bytes_eq};
 ghost use Rattle.fractions.specs.Memory.{Acts};
 ghost use Rattle.block_tree.specs.Builders.{building_of};
 ghost use Rattle.block_tree.specs.Building.{rows_so_far, new_building, var_outcome, row_outcome, finish_outcome};
+ghost use Rattle.block_tree.specs.Nesting.{
+  boolean_outcome,
+  goal_outcome,
+  open_disjunction_outcome,
+  open_disjunct_outcome,
+  close_outcome,
+};
 ghost use Rattle.block_tree.specs.Sound.{IsWhole};
 ghost use Rattle.block_tree.specs.Values.{model_tree};
 
@@ -12,8 +19,9 @@ use crate::bounds::Bound;
 use crate::errors::BuildError;
 use crate::models::Model;
 use crate::parts::Parts;
+use crate::tree::Mode;
 use fractions::Frac;
-use lp_rows::{Kind, Rel};
+use lp_rows::{Kind, Rel, Sense};
 use std::alloc::Global;
 
 /// A model that is being built.
@@ -74,6 +82,69 @@ impl ModelBuilder {
             (stands_for self.new) }
     {
         self.parts.row(alloc, terms, rel, right, mark)
+    }
+
+    /// Declares a Boolean, and answers its number.
+    ///
+    /// `Place` where a block or a disjunction is open or one was opened before, `NameTwice` where the name is taken,
+    /// `Limit` where there are 200 Booleans or the name is no name of a model.
+    pub fn boolean(&mut self, alloc: Global, name: &str, mark: u32) -> Result<u32, BuildError>
+        ensures { Acts BuildError.Memory (stands_for self.old) (boolean_outcome name.now mark (stands_for self.old)) result
+            (stands_for self.new) }
+    {
+        self.parts.boolean(alloc, name, mark)
+    }
+
+    /// Sets the goal. Its terms may stand in any order.
+    ///
+    /// `Place` where a block or a disjunction is open or a goal is set, `NameTwice` where one id stands twice,
+    /// `NameUnknown` where an id is out of range, `Number` where a coefficient is 0 or a number or the scale passes
+    /// 10^15.
+    pub fn goal(
+        &mut self,
+        alloc: Global,
+        sense: Sense,
+        terms: &[(u32, Frac)],
+        constant: Frac,
+        mark: u32,
+    ) -> Result<(), BuildError>
+        ensures { Acts BuildError.Memory (stands_for self.old) (goal_outcome sense terms.now constant mark (stands_for self.old)) result
+            (stands_for self.new) }
+    {
+        self.parts.goal(alloc, sense, terms, constant, mark)
+    }
+
+    /// Opens a disjunction in the innermost open block. `Place` where a disjunction is open.
+    pub fn open_disjunction(
+        &mut self,
+        alloc: Global,
+        mode: Mode,
+        mark: u32,
+    ) -> Result<(), BuildError>
+        ensures { Acts BuildError.Memory (stands_for self.old) (open_disjunction_outcome mode mark (stands_for self.old)) result
+            (stands_for self.new) }
+    {
+        self.parts.open_disjunction(alloc, mode, mark)
+    }
+
+    /// Opens a disjunct in the disjunction that is open, and answers the number of its indicator.
+    ///
+    /// `Place` where no disjunction is open, `NameTwice` where the name is taken, `Nesting` where eight disjuncts are
+    /// open, `Limit` where there are 200 Booleans or the name is no name of a model.
+    pub fn open_disjunct(&mut self, alloc: Global, name: &str, mark: u32) -> Result<u32, BuildError>
+        ensures { Acts BuildError.Memory (stands_for self.old) (open_disjunct_outcome name.now mark (stands_for self.old)) result
+            (stands_for self.new) }
+    {
+        self.parts.open_disjunct(alloc, name, mark)
+    }
+
+    /// Closes the innermost block or disjunction that is open, and appends it to what is around it.
+    ///
+    /// `Place` where nothing is open, `Missing` where it is a disjunction without a disjunct.
+    pub fn close(&mut self, _alloc: Global) -> Result<(), BuildError>
+        ensures { Acts BuildError.Memory (stands_for self.old) (close_outcome (stands_for self.old)) result (stands_for self.new) }
+    {
+        self.parts.close()
     }
 
     /// The number of the variable with this name.

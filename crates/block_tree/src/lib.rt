@@ -29,3 +29,6 @@ pub use names::{Names, begins_name, continues_name, is_name};
 pub use points::ModelPoint;
 pub use satisfying::satisfies;
 pub use tree::{Block, Disjunct, Disjunction, Mode};
+
+#[cfg(test)]
+mod tests;

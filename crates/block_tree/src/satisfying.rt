@@ -30,7 +30,7 @@ ghost use Rattle.block_tree.specs.Satisfied.{
   mode_allows as allows,
   is_model_point,
 };
-ghost use Rattle.block_tree.specs.Sound.{are_rows_below, is_block_below, are_disjunctions_below, are_disjuncts_below};
+ghost use Rattle.block_tree.specs.Sound.{are_rows_below, is_block_sound, are_disjunctions_sound, are_disjuncts_sound};
 ghost use Rattle.block_tree.specs.Tests.{
   verdict_of,
   end_fits,
@@ -85,7 +85,8 @@ pub fn satisfies(model: &Model, at: &Point, truths: &[bool]) -> Result<Verdict, 
 // The verdict of all tests.
 #[tactic(auto, using(crate::proofs::Verdicts::verdicts))]
 fn first_verdict(model: &Model, at: &Point, truths: &[bool]) -> Result<Verdict, SumWide>
-    requires { length at.now.nums ≡ length model.now.vars }
+    requires numbers { length at.now.nums ≡ length model.now.vars }
+    requires truths { length truths.now ≡ length model.now.booleans }
     ensures { result ≡ verdict_of (tests_of (model_tree model.now) (point_of at.now truths.now)) }
 {
     match vars_verdict(model.vars(), at.nums(), at.over()) {
@@ -255,7 +256,7 @@ fn mode_allows(mode: Mode, count: usize) -> bool
 #[cycle(satisfy)]
 #[tactic(auto, using(crate::proofs::Verdicts::verdicts))]
 fn block_verdict(block: &Block, at: &Point, truths: &[bool]) -> Result<Verdict, SumWide>
-    requires { is_block_below (length at.now.nums) (block_of block.now) ≡ true }
+    requires { is_block_sound (length at.now.nums) (length truths.now) (block_of block.now) ≡ true }
     ensures { result ≡ verdict_of (tests_of_block (block_of block.now) (point_of at.now truths.now)) }
 {
     match rows_verdict(block.rows(), at, truths) {
@@ -271,7 +272,7 @@ fn disjunctions_verdict(
     at: &Point,
     truths: &[bool],
 ) -> Result<Verdict, SumWide>
-    requires { are_disjunctions_below (length at.now.nums) (disjunctions_of disjunctions.now) ≡ true }
+    requires { are_disjunctions_sound (length at.now.nums) (length truths.now) (disjunctions_of disjunctions.now) ≡ true }
     ensures { result ≡ verdict_of (tests_of_disjunctions (disjunctions_of disjunctions.now) (point_of at.now truths.now)) }
 {
     for disjunction in disjunctions {
@@ -290,7 +291,7 @@ fn disjunction_verdict(
     at: &Point,
     truths: &[bool],
 ) -> Result<Verdict, SumWide>
-    requires { are_disjuncts_below (length at.now.nums) (disjunction_of disjunction.now).1 ≡ true }
+    requires { are_disjuncts_sound (length at.now.nums) (length truths.now) (disjunction_of disjunction.now).1 ≡ true }
     ensures { result ≡ verdict_of (tests_of_disjunction (disjunction_of disjunction.now) (point_of at.now truths.now)) }
 {
     let count = true_count(disjunction.disjuncts(), truths);
@@ -306,7 +307,7 @@ fn disjuncts_verdict(
     at: &Point,
     truths: &[bool],
 ) -> Result<Verdict, SumWide>
-    requires { are_disjuncts_below (length at.now.nums) (disjuncts_of disjuncts.now) ≡ true }
+    requires { are_disjuncts_sound (length at.now.nums) (length truths.now) (disjuncts_of disjuncts.now) ≡ true }
     ensures { result ≡ verdict_of (tests_of_disjuncts (disjuncts_of disjuncts.now) (point_of at.now truths.now)) }
 {
     for disjunct in disjuncts {
@@ -321,7 +322,7 @@ fn disjuncts_verdict(
 
 #[cycle(satisfy)]
 fn disjunct_verdict(disjunct: &Disjunct, at: &Point, truths: &[bool]) -> Result<Verdict, SumWide>
-    requires { is_block_below (length at.now.nums) (disjunct_of disjunct.now).1 ≡ true }
+    requires { is_block_sound (length at.now.nums) (length truths.now) (disjunct_of disjunct.now).1 ≡ true }
     ensures { result ≡ verdict_of (tests_of_disjunct (disjunct_of disjunct.now) (point_of at.now truths.now)) }
 {
     if is_on(truths, disjunct.indicator()) {
