@@ -38,7 +38,8 @@ def definitions(text):
             groups[-1][0].append(defined.group(1))
         if line and not is_inside:
             in_record = bool(re.match(r"(pub )?record ", line))
-        if line and not line.startswith("use "):
+        # Words above a line `mutual` are those of what it holds.
+        if line and not line.startswith("use ") and not line.endswith("mutual"):
             words = []
     return title, groups
 
