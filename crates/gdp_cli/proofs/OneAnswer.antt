@@ -7,10 +7,8 @@ use Rattle.block_tree.specs.declared.errors.SumWide.{SumWide}
 use Rattle.block_tree.specs.Satisfied.{point_of}
 use Rattle.block_tree.specs.Tests.{tests_of, verdict_of}
 use Rattle.block_tree.specs.Values.{ModelTree}
-use Rattle.gdp_grammar.specs.Lines.{lines_of}
 use Rattle.gdp_grammar.specs.Plain.{SpellsPlain}
-use Rattle.gdp_grammar.specs.Reading.{Taken, model_after}
-use Rattle.gdp_grammar.specs.Spelling.{Leads}
+use Rattle.gdp_grammar.proofs.Once.{one_model}
 use Rattle.gdp_cli.specs.declared.status.Status.{Status}
 use Rattle.gdp_cli.specs.Table.{Rows, Row, Last, With, IsOne}
 use Rattle.gdp_cli.specs.Test.{IsPoint, VerdictSays, TestSays}
@@ -33,19 +31,9 @@ one_verdict (Ok Holds) = one_last _ _
 one_verdict (Ok (FailsAt mark)) = one_last _ _
 one_verdict (Err wide) = one_last _ _
 
--- lines lead to one end
-leads_one : (line : ℕ) (before : Taken) (ls : List (List ℕ)) (after after' : Taken) → Leads line before ls after → Leads line before ls after' → after ≡ after'
-leads_one line before [] after after' a b = sym a ∙ b
-leads_one line before (l ∷ ls) after after' a b =
-    let same : a.0 ≡ b.0 = cc (a.1, b.1) in
-    leads_one (line + 1) b.0 ls after after' (subst (λ (next : Taken). Leads (line + 1) next ls after) same a.2) b.2
-
 -- a text spells at most one model
 spells_one : (text : List ℕ) (m m' : ModelTree) → SpellsPlain text m → SpellsPlain text m' → m ≡ m'
-spells_one text m m' a b =
-    let same : a.spells.0 ≡ b.spells.0 = leads_one _ _ (lines_of text) _ _ a.spells.1 b.spells.1 in
-    let answers : Ok m ≡ Ok m' = sym a.spells.2 ∙ ap model_after same ∙ b.spells.2 in
-    cc answers
+spells_one text m m' a b = one_model text m m' a.spells b.spells
 
 -- and at most one point of a model
 abbrev with_parts : ℤ → List ℤ → List Bool → PointValue × List Bool

@@ -1,11 +1,11 @@
 -- What the lines of a text give is what the text spells.
-use Rattle.std.proofs.Common.{◌≡◌, ℕ, ◌+◌, List, [], ◌∷◌, ◌++◌, length, Result, Ok, Err, refl, ap, sym, ◌∙◌, ◌⊎◌, inl, inr, subst, arith}
+use Rattle.std.proofs.Common.{◌≡◌, ℕ, ◌+◌, List, [], ◌∷◌, ◌++◌, length, Result, Ok, Err, refl, ap, sym, ◌∙◌, inl, inr, subst, arith}
 use Rattle.block_tree.specs.Values.{ModelTree}
 use Rattle.gdp_grammar.specs.declared.cause.ReadCause.{ReadCause}
 use Rattle.gdp_grammar.specs.Lines.{lines_of}
 use Rattle.gdp_grammar.specs.Reading.{Taken, nothing_taken, with_line, model_after}
 use Rattle.gdp_grammar.specs.Following.{at_line, then_on, follow, text_gives}
-use Rattle.gdp_grammar.specs.Spelling.{Leads, Spells, IsBadLine, IsBadEnd, IsFirstBad}
+use Rattle.gdp_grammar.specs.Spelling.{Leads, Spells, IsFirstBad}
 
 -- lines that lead on are followed
 pub follows : (line : ℕ) (before after : Taken) (ls : List (List ℕ)) → Leads line before ls after → follow line before ls ≡ Ok after
@@ -125,3 +125,29 @@ first_bad text bad e = go (follow 1 nothing_taken (lines_of text)) refl e
         let b = bad_after 1 nothing_taken (lines_of text) other is in
         subst (λ (x : ℕ × ReadCause). IsFirstBad text x.0 x.1) same
         (inl (record { before = b.front; bad = b.bad; after = b.rest; cut = b.cut; number = omega (arith, b.number); taken = b.taken; leads = b.lead; fails = b.fails }))
+
+-- what follows a front that leads on is what follows after it
+follow_front : (line : ℕ) (before taken : Taken) (ls others : List (List ℕ)) → Leads line before ls taken → follow line before (ls ++ others) ≡ follow (line + length ls) taken others
+follow_front line before taken [] others e = ap (λ (t : Taken). follow line t others) e ∙ ap (λ (n : ℕ). follow n taken others) (omega (arith))
+follow_front line before taken (l ∷ ls) others lead =
+    ap (λ (r : Result Taken ReadCause). then_on (at_line line r) (λ next. follow (line + 1) next (ls ++ others))) lead.1
+    ∙ follow_front (line + 1) lead.0 taken ls others lead.2
+    ∙ ap (λ (n : ℕ). follow n taken others) (omega (arith))
+
+-- the first bad line is what the lines of a text give
+pub bad_given : (text : List ℕ) (line : ℕ) (cause : ReadCause) → IsFirstBad text line cause → text_gives text ≡ Err (line, cause)
+bad_given text line cause (inl b) = ap (λ (r : Result Taken (ℕ × ReadCause)). then_on r (λ taken. at_line (length (lines_of text) + 1) (model_after taken))) bad
+  where
+    bad : follow 1 nothing_taken (lines_of text) ≡ Err (line, cause)
+    bad =
+        ap (follow 1 nothing_taken) b.cut
+        ∙ follow_front 1 nothing_taken b.taken b.before (b.bad ∷ b.after) b.leads
+        ∙ ap (λ (n : ℕ). follow n b.taken (b.bad ∷ b.after)) (omega (arith, b.number))
+        ∙ ap (λ (r : Result Taken ReadCause). then_on (at_line line r) (λ next. follow (line + 1) next b.after)) b.fails
+bad_given text line cause (inr b) =
+    ap (λ (r : Result Taken (ℕ × ReadCause)). then_on r (λ taken. at_line (length (lines_of text) + 1) (model_after taken))) (follows 1 nothing_taken b.taken (lines_of text) b.leads)
+    ∙ ap (at_line (length (lines_of text) + 1)) b.fails
+    ∙ ap (λ (n : ℕ). err_of n) (sym b.number)
+  where
+    err_of : ℕ → Result ModelTree (ℕ × ReadCause)
+    err_of n = Err (n, cause)

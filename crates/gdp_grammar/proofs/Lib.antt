@@ -3,3 +3,6 @@ pub mod Pieces
 pub mod Sums
 pub mod Twice
 pub mod Followed
+pub mod Once
+pub mod Grown
+pub mod Worked

@@ -1,12 +1,11 @@
 -- Tokens and words, one after the other.
-use Rattle.std.proofs.Common.{◌≡◌, ℕ, zero, suc, ◌<◌, ◌≤◌, Bool, true, false, cond, if◌then◌else◌, eqb, ◌&&◌, ◌||◌, not, List, [], ◌∷◌, length, ◌⊎◌, inl, inr, refl, ap, sym, ◌∙◌, arith}
+use Rattle.std.proofs.Common.{◌≡◌, ℕ, zero, suc, ◌≤◌, Bool, true, false, if◌then◌else◌, eqb, ◌&&◌, ◌||◌, not, List, [], ◌∷◌, length, inl, inr, refl, ap, sym, ◌∙◌, arith}
 use Rattle.std.proofs.lemmas.Bool.{cond-true, cond-false}
 use Rattle.gdp_grammar.specs.declared.class.Class.{Class}
 use Rattle.gdp_grammar.specs.declared.class.Class.TheVariants as class
 use Rattle.gdp_grammar.specs.declared.symbol.Symbol.{Symbol}
 use Rattle.gdp_grammar.specs.Classes.{belongs, front, rest}
-use Rattle.gdp_grammar.specs.Numerals.{Numeral}
-use Rattle.gdp_grammar.specs.Tokens.{Piece, numeral_of, number_of, double_of, token_of, tokens_within, tokens_of}
+use Rattle.gdp_grammar.specs.Tokens.{numeral_of, double_of, token_of, tokens_within, tokens_of}
 use Rattle.gdp_grammar.specs.Words.{words_within, words_of}
 use Rattle.gdp_grammar.proofs.Cutting.{told, rest_shorter}
 

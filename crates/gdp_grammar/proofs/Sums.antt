@@ -1,12 +1,11 @@
 -- The terms of a sum, one after the other.
-use Rattle.std.proofs.Common.{◌≡◌, ℕ, zero, suc, ◌<◌, ◌≤◌, Bool, true, false, cond, if◌then◌else◌, List, [], ◌∷◌, ◌++◌, length, drop, Option, Some, None, Result, Ok, Err, refl, ap, sym, ◌∙◌, arith}
+use Rattle.std.proofs.Common.{◌≡◌, ℕ, zero, suc, ◌<◌, ◌≤◌, Bool, true, false, if◌then◌else◌, List, [], ◌∷◌, ◌++◌, length, drop, Some, None, Result, Ok, Err, refl, ap, sym, ◌∙◌, arith}
 use Rattle.std.proofs.lemmas.List.{append_assoc, length-drop}
 use Rattle.gdp_grammar.specs.declared.cause.ReadCause.{ReadCause}
 use Rattle.gdp_grammar.specs.declared.cause.ReadCause.TheVariants as cause
 use Rattle.gdp_grammar.specs.Causes.{◌>>=◌}
 use Rattle.gdp_grammar.specs.Forms.{Summand, name_of, summand_of, joint_of, joined, summands_within}
 use Rattle.gdp_grammar.specs.Keywords.{is_reserved}
-use Rattle.gdp_grammar.specs.Numerals.{Numeral}
 use Rattle.gdp_grammar.specs.Tokens.{Piece, Word, Number, Mark, Stray}
 
 -- what goes on is Ok only where what came before is

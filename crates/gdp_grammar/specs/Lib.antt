@@ -1,8 +1,10 @@
 pub mod Causes
 pub mod Classes
+pub mod Declaring
 pub mod Following
 pub mod Forms
 pub mod Keywords
+pub mod Laws
 pub mod Lines
 pub mod Numerals
 pub mod Plain
@@ -11,3 +13,4 @@ pub mod Reading
 pub mod Spelling
 pub mod Tokens
 pub mod Words
+pub mod Worked

@@ -1,5 +1,5 @@
 -- What a line adds to what the lines before it gave, or the cause against it.
-use Rattle.std.specs.Prelude.{ℕ, zero, ◌^◌, ℤ, pos, neg_ℤ, Bool, true, false, not, List, [], ◌∷◌, map, Option, None, Some, is_some, Result, Ok, Err, if◌then◌else◌, nat_le, ◌==◌, ◌||◌, ◌&&◌, codes, position, bytes_eq}
+use Rattle.std.specs.Prelude.{ℕ, ◌^◌, pos, neg_ℤ, Bool, true, false, not, List, [], ◌∷◌, map, Option, None, Some, is_some, Result, Ok, Err, if◌then◌else◌, nat_le, ◌==◌, ◌||◌, codes, position, bytes_eq}
 use Rattle.fractions.specs.Fraction.{Fraction}
 use Rattle.lp_rows.specs.declared.kinds.Kind.{Kind}
 use Rattle.lp_rows.specs.declared.kinds.Rel.{Rel}
