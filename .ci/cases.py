@@ -161,6 +161,13 @@ def spellings():
         ("501 variables", b"gdp 1\n" + b"".join(b"var v%d real 0 1\n" % j for j in range(501))),
         ("1,001 rows", x + b"row x <= 7\n" * 1001),
     ]
+    good_points = [
+        ("blanks at will", b" gdp-point  1\n over 1 \nval   x 3  \n end\n"),
+        ("tabs are blanks", b"gdp-point\t1\nover\t1\nval\tx\t3\t\nend\n"),
+        ("carriage returns before newlines", at(3).replace(b"\n", b"\r\n")),
+        ("leading zeros", at(3).replace(b"3", b"0003")),
+        ("minus nought", at(3).replace(b"3", b"-0")),
+    ]
     bad_points = [
         ("the empty point", b""),
         ("another header", b"gdp-point 2\nover 1\nval x 3\nend\n"),
@@ -174,6 +181,17 @@ def spellings():
         ("an unknown name", b"gdp-point 1\nover 1\nval x 3\nval y 3\nend\n"),
         ("another name", b"gdp-point 1\nover 1\nval y 3\nend\n"),
         ("a plus", b"gdp-point 1\nover 1\nval x +3\nend\n"),
+        ("a minus apart", b"gdp-point 1\nover 1\nval x - 3\nend\n"),
+        ("a minus alone", b"gdp-point 1\nover 1\nval x -\nend\n"),
+        ("words run together", b"gdp-point 1\nover 1\nval x-3\nend\n"),
+        ("two numbers", b"gdp-point 1\nover 1\nval x 3 3\nend\n"),
+        ("a word after the end", b"gdp-point 1\nover 1\nval x 3\nend end\n"),
+        ("over with a leading zero", b"gdp-point 1\nover 01\nval x 3\nend\n"),
+        ("a blank line", b"gdp-point 1\nover 1\n\nval x 3\nend\n"),
+        ("a blank line at the end", b"gdp-point 1\nover 1\nval x 3\nend\n\n"),
+        ("a comment", b"gdp-point 1\nover 1\nval x 3 # tonnes\nend\n"),
+        ("two carriage returns", b"gdp-point 1\nover 1\nval x 3\r\r\nend\n"),
+        ("a carriage return at the end of the text", b"gdp-point 1\nover 1\nval x 3\nend\r"),
         ("a fraction", b"gdp-point 1\nover 1\nval x 3/1\nend\n"),
         ("one past the greatest number", b"gdp-point 1\nover 1\nval x %d\nend\n" % (GREATEST + 1)),
         ("one past the least number", b"gdp-point 1\nover 1\nval x %d\nend\n" % (LEAST - 1)),
@@ -184,6 +202,7 @@ def spellings():
     ]
     return (
         [tested(f"read: {name}", model, at_point, 0, b"holds\n") for name, model, at_point in good]
+        + [tested(f"read: point: {name}", MODEL, at_point, 0, b"holds\n") for name, at_point in good_points]
         + [tested(f"model: {name}", model, at(3), 2, err=b"M: not built\n") for name, model in bad_models]
         + [tested(f"point: {name}", MODEL, at_point, 2, err=b"P: not built\n") for name, at_point in bad_points]
         + [

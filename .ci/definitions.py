@@ -18,7 +18,7 @@ DEFINED = re.compile(r"\s*(?:abbrev |unfoldable |mutual )*pub (?:record |data |a
 def crates():
     """The crates, lowest first, as crates.txt lists them."""
     lines = [line.split("#")[0] for line in (ROOT / "crates.txt").read_text().splitlines()]
-    return [line.split(":")[0].split()[0] for line in lines if ":" in line]
+    return list(dict.fromkeys(line.split(":")[0].split()[0] for line in lines if ":" in line))
 
 
 def definitions(text):
@@ -38,7 +38,8 @@ def definitions(text):
             groups[-1][0].append(defined.group(1))
         if line and not is_inside:
             in_record = bool(re.match(r"(pub )?record ", line))
-        if line and not line.startswith("use "):
+        # Words above a line `mutual` are those of what it holds.
+        if line and not line.startswith("use ") and not line.endswith("mutual"):
             words = []
     return title, groups
 
@@ -58,7 +59,8 @@ def page():
         for path in files:
             title, groups = definitions(path.read_text())
             lines += ["", f"**`{crate}/specs/{path.name}`**: {sentence(title)}", ""]
-            lines += [f"- {', '.join(f'`{name}`' for name in names)}: {sentence(words)}" for names, words in groups]
+            # A first definition without words of its own is what the file's title says.
+            lines += [f"- {', '.join(f'`{name}`' for name in names)}: {sentence(words or title)}" for names, words in groups]
     return "\n".join(lines) + "\n"
 
 

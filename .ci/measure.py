@@ -2,8 +2,8 @@
 """Measures the built program on the largest model, beside `cat` and `wc` on the same file, and prints a table.
 
 `measure.py [PROGRAM]` writes the model that `full_model.py` makes into a temporary folder, runs each command five times, in
-turns, and prints the least wall time and the greatest peak of resident memory. What Linux counts as the peak begins with the
-memory of this process, some 10 MiB, so a peak is told only of what passes that.
+turns, and prints the least wall time, the least processor time and the greatest peak of resident memory. What Linux counts as
+the peak begins with the memory of this process, some 10 MiB, so a peak is told only of what passes that.
 """
 
 import os
@@ -18,7 +18,7 @@ TURNS = 5
 
 
 def measured(command, folder):
-    """Runs the command once, and gives its seconds, its peak memory in bytes, and what it wrote."""
+    """Runs the command once, and gives its seconds, those of the processor, its peak memory in bytes, and its answer."""
     read, write = os.pipe()
     begun = time.perf_counter()
     child = subprocess.Popen(command, cwd=folder, stdout=write if command[0] != "cat" else subprocess.DEVNULL)
@@ -27,7 +27,8 @@ def measured(command, folder):
     seconds = time.perf_counter() - begun
     with os.fdopen(read, "rb") as pipe:
         out = pipe.read()
-    return seconds, usage.ru_maxrss * 1024, os.waitstatus_to_exitcode(status), out.decode().strip()
+    answer = f"`{out.decode().strip()}`, status {os.waitstatus_to_exitcode(status)}"
+    return seconds, usage.ru_utime + usage.ru_stime, usage.ru_maxrss * 1024, answer
 
 
 def main(named):
@@ -45,12 +46,12 @@ def main(named):
         for _ in range(TURNS):
             for name, command in commands.items():
                 runs[name].append(measured(command, folder))
-        print(f"| command, on {size:,} bytes | seconds | peak memory | times the text | answer |")
-        print("|---|---|---|---|---|")
+        print(f"| command, on {size:,} bytes | seconds | of the processor | peak memory | times the text | answer |")
+        print("|---|---|---|---|---|---|")
         for name, some in runs.items():
-            seconds, memory = min(run[0] for run in some), max(run[1] for run in some)
-            told = f"{memory / 2**20:.1f} MiB | {memory / size:.1f} | `{some[0][3]}`, status {some[0][2]}"
-            print(f"| {name} | {seconds:.3f} | {told if 'gdp test' in name else '| |'} |")
+            seconds, busy, memory = min(run[0] for run in some), min(run[1] for run in some), max(run[2] for run in some)
+            told = f"{memory / 2**20:.1f} MiB | {memory / size:.1f} | {some[0][3]}"
+            print(f"| {name} | {seconds:.3f} | {busy:.3f} | {told if 'gdp test' in name else '| |'} |")
 
 
 if __name__ == "__main__":

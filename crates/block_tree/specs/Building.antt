@@ -12,7 +12,7 @@ use Rattle.block_tree.specs.declared.errors.BuildError.{BuildError}
 use Rattle.block_tree.specs.declared.errors.BuildError.TheVariants.{Place, NameTwice, NameUnknown, Number, Nesting, Unclosed, Limit, Missing}
 use Rattle.block_tree.specs.declared.tree.Mode.{Mode}
 use Rattle.block_tree.specs.Names.{has_name, is_name}
-use Rattle.block_tree.specs.Scaling.{scale_of, scaled, scaled_terms, sorted_terms}
+use Rattle.block_tree.specs.Scaling.{has_id_twice, scale_of, scaled, stored_terms}
 use Rattle.block_tree.specs.Tree.{BlockTree, block, row_count_below, row_count_within}
 use Rattle.block_tree.specs.Variables.{VarValue, BooleanValue}
 use Rattle.block_tree.specs.Values.{GoalValue, no_goal, ModelTree}
@@ -93,25 +93,16 @@ abbrev pub var_outcome : List ℕ → Kind → Bound → ℕ → BuildingValue �
 var_outcome name kind bound mark b =
     unless (refusal_of_var name bound b) b (length b.vars) (record b { vars = b.vars ++ (name, kind, bound, mark) ∷ [] })
 
--- an id stands in these terms
-abbrev pub has_id : {A : Type 0} → ℕ → List (ℕ × A) → Bool
-has_id id ts = list_any (λ t. id == t.0) ts
-
--- one id stands twice in these terms
-abbrev pub has_id_twice : {A : Type 0} → List (ℕ × A) → Bool
-has_id_twice [] = false
-has_id_twice (t ∷ ts) = has_id t.0 ts || has_id_twice ts
-
 -- each id is below n
 abbrev pub are_ids_below : {A : Type 0} → ℕ → List (ℕ × A) → Bool
 are_ids_below n ts = list_all (λ t. nat_lt t.0 n) ts
 
--- The numbers of a row or goal may be stored: those given have small parts, no coefficient is 0, and those that
--- scaling by k makes are small.
+-- The numbers of a row or goal may be stored: those given have small parts, and of those that scaling by k makes no
+-- coefficient is 0 and all are small.
 abbrev pub are_numbers : ℕ → List (ℕ × Fraction) → Fraction → Bool
 are_numbers k ts number =
     list_all (λ t. has_small_parts t.1) ts && has_small_parts number
-    && not (has_zero (scaled_terms k ts)) && are_storable (scaled_terms k ts) && is_storable (scaled k number)
+    && not (has_zero (stored_terms k ts)) && are_storable (stored_terms k ts) && is_storable (scaled k number)
 
 -- how many rows stand in an open block and below it
 abbrev pub rows_in_open : OpenBlock → ℕ
@@ -131,20 +122,25 @@ rows_in_opened (Some d) = row_count_within (disjuncts d.closed)
 abbrev pub rows_so_far : BuildingValue → ℕ
 rows_so_far b = rows_in_open b.inner + rows_in_opened b.opened + rows_around b.outer
 
+-- Why terms and a number are refused where n variables stand: the first of these causes, or else what stands below.
+abbrev pub refusal_of_terms : ℕ → List (ℕ × Fraction) → Fraction → Option BuildError → Option BuildError
+refusal_of_terms n terms number below =
+    refuse_if (has_id_twice terms) NameTwice
+    (refuse_if (not (are_ids_below n terms)) NameUnknown
+    (refuse_if (not (are_numbers (scale_of terms number) terms number)) Number below))
+
 -- why a row is refused
 abbrev pub refusal_of_row : List (ℕ × Fraction) → Fraction → BuildingValue → Option BuildError
 refusal_of_row terms right b =
     refuse_if (is_some b.opened) Place
-    (refuse_if (has_id_twice terms) NameTwice
-    (refuse_if (not (are_ids_below (length b.vars) terms)) NameUnknown
-    (refuse_if (not (are_numbers (scale_of terms right) terms right)) Number
-    (refuse_if (nat_le 1000 (rows_so_far b)) Limit None))))
+    (refusal_of_terms (length b.vars) terms right
+    (refuse_if (nat_le 1000 (rows_so_far b)) Limit None))
 
 -- the row that is stored: scaled, its terms in the order of their ids
 abbrev pub stored_row : List (ℕ × Fraction) → Rel → Fraction → RowValue
 stored_row terms rel right =
     let k = scale_of terms right in
-    record { terms = sorted_terms (scaled_terms k terms); rel = rel; right = scaled k right }
+    record { terms = stored_terms k terms; rel = rel; right = scaled k right }
 
 -- a row is appended to the innermost open block
 abbrev pub row_outcome : List (ℕ × Fraction) → Rel → Fraction → ℕ → BuildingValue → Result (Unit {0}) BuildError × BuildingValue

@@ -1,9 +1,13 @@
+pub mod Builders
 pub mod Building
 pub mod Variables
 pub mod Names
+pub mod Numbers
 pub mod Nesting
 pub mod Satisfied
 pub mod Scaling
+pub mod Sound
+pub mod Standing
 pub mod Tests
 pub mod Tree
 pub mod Values

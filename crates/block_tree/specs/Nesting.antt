@@ -7,9 +7,9 @@ use Rattle.lp_rows.specs.Rows.{is_storable}
 use Rattle.block_tree.specs.declared.errors.BuildError.{BuildError}
 use Rattle.block_tree.specs.declared.errors.BuildError.TheVariants.{Place, NameTwice, NameUnknown, Number, Nesting, Limit, Missing}
 use Rattle.block_tree.specs.declared.tree.Mode.{Mode}
-use Rattle.block_tree.specs.Building.{BuildingValue, OpenBlock, OpenDisjunction, empty_block, is_empty, is_at_root, is_taken, has_id_twice, are_ids_below, are_numbers, closed_block}
+use Rattle.block_tree.specs.Building.{BuildingValue, OpenBlock, OpenDisjunction, empty_block, is_empty, is_at_root, is_taken, refusal_of_terms, closed_block}
 use Rattle.block_tree.specs.Names.{is_name}
-use Rattle.block_tree.specs.Scaling.{scale_of, scaled, scaled_terms, sorted_terms}
+use Rattle.block_tree.specs.Scaling.{scale_of, scaled, stored_terms}
 use Rattle.block_tree.specs.Values.{GoalValue}
 use Rattle.block_tree.specs.View.{DisjunctTree, DisjunctionTree, disjuncts}
 
@@ -25,19 +25,21 @@ abbrev pub boolean_outcome : List ℕ → ℕ → BuildingValue → Result ℕ B
 boolean_outcome name mark b =
     unless (refusal_of_boolean name b) b (length b.booleans) (record b { booleans = b.booleans ++ (name, mark) ∷ [] })
 
--- why a goal is refused: its scale is stored, and so is small
+-- why the scale of a goal is refused: it is stored too
+abbrev pub refusal_of_scale : List (ℕ × Fraction) → Fraction → Option BuildError
+refusal_of_scale terms constant = refuse_if (not (is_storable (pos (scale_of terms constant)))) Number None
+
+-- why a goal is refused
 abbrev pub refusal_of_goal : List (ℕ × Fraction) → Fraction → BuildingValue → Option BuildError
 refusal_of_goal terms constant b =
     refuse_if (not (is_at_root b) || is_some b.goal) Place
-    (refuse_if (has_id_twice terms) NameTwice
-    (refuse_if (not (are_ids_below (length b.vars) terms)) NameUnknown
-    (refuse_if (not (are_numbers (scale_of terms constant) terms constant && is_storable (pos (scale_of terms constant)))) Number None)))
+    (refusal_of_terms (length b.vars) terms constant (refusal_of_scale terms constant))
 
 -- the goal that is stored: scaled, its terms in the order of their ids
 abbrev pub stored_goal : Sense → List (ℕ × Fraction) → Fraction → ℕ → GoalValue
 stored_goal sense terms constant mark =
     let k = scale_of terms constant in
-    record { sense = sense; terms = sorted_terms (scaled_terms k terms); constant = scaled k constant; scale = pos k; mark = mark }
+    record { sense = sense; terms = stored_terms k terms; constant = scaled k constant; scale = pos k; mark = mark }
 
 -- the goal is set
 abbrev pub goal_outcome : Sense → List (ℕ × Fraction) → Fraction → ℕ → BuildingValue → Result (Unit {0}) BuildError × BuildingValue

@@ -47,10 +47,10 @@ is_of_kind Int number over = is_whole number over
 abbrev pub takes : VarValue → ℤ → ℤ → Bool
 takes v number over = is_above v.2.low number over && is_below v.2.high number over && is_of_kind v.1 number over
 
--- the variables, the first of which has the number j, take the point's numbers
-abbrev pub vars_take : List VarValue → ℕ → PointOf → Bool
-vars_take [] j p = true
-vars_take (v ∷ vs) j p = takes v (p.nums j) p.over && vars_take vs (j + 1) p
+-- the variables, the first of which has the number j, take these numerators over the denominator
+abbrev pub vars_take : List VarValue → ℕ → (ℕ → ℤ) → ℤ → Bool
+vars_take [] j nums over = true
+vars_take (v ∷ vs) j nums over = takes v (nums j) over && vars_take vs (j + 1) nums over
 
 -- each row holds
 abbrev pub rows_hold : List (RowValue × ℕ) → PointOf → Bool
@@ -97,4 +97,4 @@ abbrev mutual
 
 -- The point is one of the model's: each variable takes its number, and the root block is satisfied.
 abbrev pub is_model_point : ModelTree → PointOf → Bool
-is_model_point m p = vars_take m.vars 0 p && is_satisfied m.root p
+is_model_point m p = vars_take m.vars 0 p.nums p.over && is_satisfied m.root p

@@ -11,6 +11,7 @@ use Rattle.block_tree.specs.Satisfied.{PointOf, is_above, is_below, is_of_kind, 
 use Rattle.block_tree.specs.Tree.{DisjunctHead, BlockTree, block, Disjunctions, no_disjunctions, disjunction, Disjuncts, no_disjuncts, disjunct}
 use Rattle.block_tree.specs.Variables.{VarValue}
 use Rattle.block_tree.specs.Values.{ModelTree}
+use Rattle.block_tree.specs.View.{DisjunctTree, DisjunctionTree}
 
 -- what one test says: it passes, or fails or is wide at a mark
 pub data Test : Type 0 where
@@ -46,9 +47,9 @@ tests_of_var v number over =
     ∷ test_of (is_of_kind v.1 number over) v.3 ∷ []
 
 -- the tests of the variables, the first of which has the number j
-abbrev pub tests_of_vars : List VarValue → ℕ → PointOf → List Test
-tests_of_vars [] j p = []
-tests_of_vars (v ∷ vs) j p = tests_of_var v (p.nums j) p.over ++ tests_of_vars vs (j + 1) p
+abbrev pub tests_of_vars : List VarValue → ℕ → (ℕ → ℤ) → ℤ → List Test
+tests_of_vars [] j nums over = []
+tests_of_vars (v ∷ vs) j nums over = tests_of_var v (nums j) over ++ tests_of_vars vs (j + 1) nums over
 
 -- the test of a row
 abbrev pub test_of_row : PointOf → RowValue × ℕ → Test
@@ -87,9 +88,16 @@ abbrev mutual
   tests_of_disjuncts (disjunct head b js) p =
       (if p.truths head.indicator then tests_of_block b p else map (test_of_off p.truths) (below b)) ++ tests_of_disjuncts js p
 
+-- the tests of one disjunction and of one disjunct
+abbrev pub tests_of_disjunction : DisjunctionTree → PointOf → List Test
+tests_of_disjunction d p = test_of (mode_allows d.0.mode (true_count d.1 p.truths)) d.0.mark ∷ tests_of_disjuncts d.1 p
+
+abbrev pub tests_of_disjunct : DisjunctTree → PointOf → List Test
+tests_of_disjunct j p = if p.truths j.0.indicator then tests_of_block j.1 p else map (test_of_off p.truths) (below j.1)
+
 -- the tests of a point of the model
 abbrev pub tests_of : ModelTree → PointOf → List Test
-tests_of m p = tests_of_vars m.vars 0 p ++ tests_of_block m.root p
+tests_of m p = tests_of_vars m.vars 0 p.nums p.over ++ tests_of_block m.root p
 
 -- what a verdict tells of a condition: it holds, it does not, or nothing
 abbrev pub Tells : Result Verdict SumWide → Bool → Type 0

@@ -1,5 +1,6 @@
 -- The plain tree that a stored block stands for.
 use Rattle.std.specs.Prelude.{ℕ, List, [], ◌∷◌, map}
+use Rattle.lp_rows.specs.Rows.{RowValue}
 use Rattle.block_tree.specs.Tree.{DisjunctionHead, DisjunctHead, BlockTree, block, Disjunctions, no_disjunctions, disjunction, Disjuncts, no_disjuncts, disjunct}
 use Rattle.block_tree.specs.declared.tree.Block.{Block}
 use Rattle.block_tree.specs.declared.tree.Disjunct.{Disjunct}
@@ -15,10 +16,19 @@ DisjunctTree = DisjunctHead × BlockTree
 abbrev pub DisjunctionTree : Type 0
 DisjunctionTree = DisjunctionHead × Disjuncts
 
+-- the rows of a block, and its disjunctions
+abbrev pub rows_in : BlockTree → List (RowValue × ℕ)
+rows_in (block items ds) = items.rows
+
+abbrev pub disjunctions_in : BlockTree → Disjunctions
+disjunctions_in (block items ds) = ds
+
+-- disjuncts in order
 abbrev pub disjuncts : List DisjunctTree → Disjuncts
 disjuncts [] = no_disjuncts
 disjuncts (j ∷ js) = disjunct j.0 j.1 (disjuncts js)
 
+-- disjunctions in order
 abbrev pub disjunctions : List DisjunctionTree → Disjunctions
 disjunctions [] = no_disjunctions
 disjunctions (d ∷ ds) = disjunction d.0 d.1 (disjunctions ds)

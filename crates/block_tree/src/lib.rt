@@ -8,13 +8,27 @@
 #![tactic(auto)]
 
 pub mod bounds;
+pub mod builder;
 pub mod declarations;
 pub mod errors;
+pub mod models;
 pub mod names;
+pub mod parts;
+pub mod points;
+mod queries;
+pub mod satisfying;
+pub mod scaling;
 pub mod tree;
 
 pub use bounds::Bound;
+pub use builder::ModelBuilder;
 pub use declarations::{Booleans, Variables};
 pub use errors::{BuildError, SumWide, Verdict};
+pub use models::Model;
 pub use names::{Names, begins_name, continues_name, is_name};
+pub use points::ModelPoint;
+pub use satisfying::satisfies;
 pub use tree::{Block, Disjunct, Disjunction, Mode};
+
+#[cfg(test)]
+mod tests;

@@ -4,8 +4,12 @@ ghost use Rattle.std.specs.Prelude.{◌≡◌, false, [], ◌∷◌, ◌++◌, p
 ghost use Rattle.std.specs.List.{list_all};
 ghost use Rattle.std.specs.Str.{bytes_eq};
 ghost use Rattle.block_tree.specs.Names.{
-    begins_name as may_begin, continues_name as may_continue, has_name_shape as shaped, is_name as is_name_of, has_name,
-    reserved_words,
+  begins_name as may_begin,
+  continues_name as may_continue,
+  has_name_shape as shaped,
+  is_name as is_name_of,
+  has_name,
+  reserved_words,
 };
 
 use fractions::Memory;

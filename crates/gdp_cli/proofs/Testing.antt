@@ -1,13 +1,41 @@
--- What `test` answers where both texts were read.
-use Rattle.std.proofs.Common.{◌≡◌, ℕ, List, Result, Ok, Err, ◌∙◌, subst, inl}
+-- What `test` answers by what its texts spell, and by the texts behind the names.
+use Rattle.std.proofs.Common.{◌≡◌, ℕ, Bool, List, Result, Ok, Err, ◌∙◌, subst, ap, inl, inr}
 use Rattle.std.specs.Result.{IfOk}
 use Rattle.fractions.specs.declared.memory.Memory.{Memory}
 use Rattle.gdp_io.specs.Shelf.{Contents, SameContents, IsBehind}
+use Rattle.lp_rows.specs.Points.{PointValue}
+use Rattle.block_tree.specs.declared.errors.Verdict.{Verdict}
+use Rattle.block_tree.specs.declared.errors.SumWide.{SumWide}
+use Rattle.block_tree.specs.Satisfied.{point_of}
+use Rattle.block_tree.specs.Tests.{tests_of, verdict_of}
+use Rattle.block_tree.specs.Values.{ModelTree}
+use Rattle.gdp_grammar.specs.Plain.{SpellsPlain}
+use Rattle.gdp_grammar.specs.Points.{SpellsPoint}
 use Rattle.gdp_cli.specs.declared.messages.Reply.{Reply}
 use Rattle.gdp_cli.specs.Answers.{Answers}
 use Rattle.gdp_cli.specs.Statuses.{IsWorked}
-use Rattle.gdp_cli.specs.Test.{TestSays}
+use Rattle.gdp_cli.specs.Test.{IsLong, VerdictSays, PointSays, TestSays}
 use Rattle.gdp_cli.specs.Words.Form.{Test}
+
+-- the verdict on the point that the text spells
+pub if_point : (m : ModelTree) (point point_text bytes : List ℕ) (at : PointValue) (truths flags : List Bool) (verdict : Result Verdict SumWide) (result : Result Reply Memory) →
+    bytes ≡ point_text → flags ≡ truths → SpellsPoint m bytes at truths → verdict ≡ verdict_of (tests_of m (point_of at flags)) →
+    IfOk result (λ reply. VerdictSays verdict reply.status reply.text) →
+    IfOk result (λ reply. PointSays m point point_text reply.status reply.text)
+if_point m point point_text bytes at truths flags verdict (Err memory) same same_flags is_point is_verdict says = tt
+if_point m point point_text bytes at truths flags verdict (Ok reply) same same_flags is_point is_verdict says =
+    let is : SpellsPoint m point_text at truths = subst (λ (text : List ℕ). SpellsPoint m text at truths) same is_point in
+    let told : verdict ≡ verdict_of (tests_of m (point_of at truths)) = is_verdict ∙ ap (λ (f : List Bool). verdict_of (tests_of m (point_of at f))) same_flags in
+    inr ((λ none. none (at, truths) is), ((at, truths), is, subst (λ (v : Result Verdict SumWide). VerdictSays v reply.status reply.text) told says))
+
+-- what the point answers for the model that the text spells
+pub if_model : (model point model_text point_text bytes : List ℕ) (m : ModelTree) (result : Result Reply Memory) →
+    ¬ IsLong model_text → ¬ IsLong point_text → bytes ≡ model_text → SpellsPlain bytes m → IfOk result (λ reply. PointSays m point point_text reply.status reply.text) →
+    IfOk result (λ reply. TestSays model point model_text point_text reply.status reply.text)
+if_model model point model_text point_text bytes m (Err memory) short_model short_point same is_model says = tt
+if_model model point model_text point_text bytes m (Ok reply) short_model short_point same is_model says =
+    let is : SpellsPlain model_text m = subst (λ (text : List ℕ). SpellsPlain text m) same is_model in
+    inr (short_model, inr (short_point, inr ((λ none. none m is), (m, is, says))))
 
 -- the table of the texts that were read is that of the texts behind the names
 pub if_both_read : (contents between : Contents) (before now : List ℕ → ℕ) (model point model_text point_text : List ℕ) (result : Result Reply Memory) →
@@ -19,6 +47,6 @@ if_both_read contents between before now model point model_text point_text (Ok r
   one = inl worked;
   says = λ _ all_model all_point told_model told_point.
       subst (λ (t : List ℕ). TestSays model point all_model t reply.status reply.text) (is_point all_point (same point ∙ told_point))
-          (subst (λ (t : List ℕ). TestSays model point t point_text reply.status reply.text) (is_model all_model told_model) says);
+      (subst (λ (t : List ℕ). TestSays model point t point_text reply.status reply.text) (is_model all_model told_model) says);
   fault = λ is. absurd (subst IsWorked is worked);
 }

@@ -3,7 +3,6 @@ use Rattle.std.specs.Prelude.{◌≡◌, ℕ, List}
 use Rattle.gdp_io.specs.declared.shelves.ReadAllError.{ReadAllError}
 use Rattle.gdp_io.specs.declared.shelves.ReadAllError.TheVariants as Error
 use Rattle.gdp_cli.specs.declared.status.Status.{Status}
-use Rattle.gdp_cli.specs.declared.status.Status.TheVariants as Status
 use Rattle.gdp_cli.specs.Messages.{read_fault, too_long}
 
 -- the status and the text where the text behind the name was not read for this cause; want of memory is no answer

@@ -13,6 +13,10 @@ Row when status text below = λ s t. (when × (s ≡ status) × (t ≡ text)) �
 abbrev pub Last : Status → List ℕ → Rows
 Last status text = λ s t. (s ≡ status) × (t ≡ text)
 
+-- as the rows below say for what is so
+abbrev pub With : {A : Type 0} → (A → Type 0) → (A → Rows) → Rows
+With {A} is below = λ s t. (x : A) × is x × below x s t
+
 -- at most one status and text
 abbrev pub IsOne : Rows → Type 0
 IsOne rows = (s s' : Status) (t t' : List ℕ) → rows s t → rows s' t' → (s ≡ s') × (t ≡ t')

@@ -9,21 +9,22 @@
 #![tactic(auto)]
 
 mod messages;
+mod reader;
 mod run;
-mod stand_in;
 mod status;
 mod streams;
 mod test_command;
+#[cfg(test)]
+mod tests;
 mod words;
 
 use gdp_io::{FileShelf, OutSink};
 use run::run;
 use status::Status;
 use std::alloc::Global;
-use std::process::ExitCode;
-use std::env;
 use std::env::Env;
-use std::io;
+use std::process::ExitCode;
+use std::{env, io};
 use streams::say;
 
 /// The status where the words can't be had for another cause than want of memory, as where one is not UTF-8.

@@ -2,15 +2,16 @@
 ghost use Rattle.std.specs.Prelude.{◌≡◌, ℕ, List, IfOk};
 ghost use Rattle.gdp_cli.specs.Answers.{Answers};
 ghost use Rattle.gdp_cli.specs.Statuses.{IsWorked};
-ghost use Rattle.gdp_cli.specs.Test.{TestSays, VerdictSays, IsLong};
+ghost use Rattle.gdp_cli.specs.Test.{TestSays, PointSays, VerdictSays, IsLong};
+ghost use Rattle.block_tree.specs.Values.{model_tree};
 ghost use Rattle.gdp_cli.specs.Messages.{not_built};
 ghost use Rattle.gdp_cli.specs.Table.{IsOne};
 ghost use Rattle.gdp_cli.specs.Words.Form.{Test};
 
 use crate::messages::{Reply, make_line, make_place, read_failed};
-use crate::stand_in::{ReadError, read_model, read_point, satisfies};
+use crate::reader::{ReadError, read_model, read_point};
 use crate::status::Status;
-use block_tree::{SumWide, Verdict};
+use block_tree::{Model, SumWide, Verdict, satisfies};
 use fractions::Memory;
 use gdp_io::{Shelf, Text, read_all};
 use std::alloc::Global;
@@ -51,17 +52,29 @@ fn judge(
     ensures worked { IfOk result (λ reply. IsWorked reply.status) }
     ensures says { IfOk result (λ reply. TestSays model.now point.now model_text.now point_text.now reply.status reply.text) }
 {
-    let read = match read_model(alloc, model_text.as_slice()) {
-        Ok(read) => read,
-        Err(ReadError::NotBuilt) => return not_built(alloc, model),
-        Err(ReadError::Memory) => return Err(Memory),
-    };
-    let at = match read_point(alloc, &read, point_text.as_slice()) {
+    match read_model(alloc, model_text.as_slice()) {
+        Ok(read) => judge_point(alloc, &read, point, point_text),
+        Err(ReadError::NotBuilt) => not_built(alloc, model),
+        Err(ReadError::Memory) => Err(Memory),
+    }
+}
+
+/// What a point text answers for a model.
+fn judge_point(
+    alloc: Global,
+    model: &Model,
+    point: &str,
+    point_text: &Text,
+) -> Result<Reply, Memory>
+    ensures worked { IfOk result (λ reply. IsWorked reply.status) }
+    ensures says { IfOk result (λ reply. PointSays (model_tree model.now) point.now point_text.now reply.status reply.text) }
+{
+    let at = match read_point(alloc, model, point_text.as_slice()) {
         Ok(at) => at,
         Err(ReadError::NotBuilt) => return not_built(alloc, point),
         Err(ReadError::Memory) => return Err(Memory),
     };
-    verdict_reply(alloc, satisfies(&read, &at))
+    verdict_reply(alloc, satisfies(model, &at.at, at.truths.as_slice()))
 }
 
 /// The answer where a text is none that is read.

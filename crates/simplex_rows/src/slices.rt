@@ -7,9 +7,9 @@ ghost use Rattle.simplex_rows.specs.Steps.{IsStepped, IsDivided, IsCopy, IsPrimi
 ghost use Rattle.simplex_rows.specs.Dropped.{without};
 ghost use Rattle.simplex_rows.specs.Width.{IsNarrowBy, IsFirstWideBy, IsNarrowStepOf, IsFirstWideStep, IsNarrowRow};
 
-use crate::steps::{factors, has_step, is_narrow_step, is_negative, step_entry};
-use fractions::divisors::gcd_of_magnitudes;
-use fractions::exact_quotient;
+use crate::steps::{
+    divisor_with, entry_quotient, factors, has_step, is_narrow_step, is_negative, step_entry,
+};
 
 /// The greatest common divisor of the entries, left as soon as it is 1.
 pub(crate) fn row_gcd(entries: &[i128]) -> u128
@@ -17,7 +17,7 @@ pub(crate) fn row_gcd(entries: &[i128]) -> u128
 {
     let mut divisor = 0u128;
     for entry in entries {
-        divisor = gcd_of_magnitudes(divisor, entry.unsigned_abs());
+        divisor = divisor_with(divisor, *entry);
         if divisor == 1 {
             return 1;
         }
@@ -70,7 +70,7 @@ pub(crate) fn divide_entries(entries: &mut [i128], divisor: i128)
     ensures { IsDivided (length entries.old) divisor (at entries.old) (at entries.new) }
 {
     for j in 0..entries.len() {
-        entries[j] = exact_quotient(entries[j], divisor);
+        entries[j] = entry_quotient(entries[j], divisor);
     }
 }
 

@@ -1,9 +1,11 @@
 //! The arithmetic of one entry.
 
-ghost use Rattle.std.specs.Prelude.{◌≡◌, false, pos, ◌*ℤ◌, ◌-ℤ◌, ◌<ℤ◌, ◌≤ℤ◌, MatchBool, SomeIff, IsTrue, ◌↔◌};
+ghost use Rattle.std.specs.Prelude.{◌≡◌, false, pos, ◌*ℤ◌, ◌-ℤ◌, ◌<ℤ◌, ◌≤ℤ◌, unsigned_abs, MatchBool, SomeIff, IsTrue, ◌↔◌};
+ghost use Rattle.std.specs.Int.{IsGcd, ◌∣◌};
 ghost use Rattle.fractions.specs.Width.{IsNarrow};
 ghost use Rattle.simplex_rows.specs.Width.{IsFactors, IsNarrowStep};
 
+use fractions::divisors::gcd_of_magnitudes;
 use fractions::{divisor_of_both, exact_quotient};
 
 /// The product, or None where it isn't narrow.
@@ -76,4 +78,28 @@ pub(crate) fn factors(p: i128, f: i128) -> (i128, i128)
 {
     let divisor = divisor_of_both(p, f);
     (exact_quotient(p, divisor), exact_quotient(f, divisor))
+}
+
+/// The greatest common divisor of a divisor and an entry.
+#[inline(always)]
+pub(crate) fn divisor_with(divisor: u128, entry: i128) -> u128
+    ensures { IsGcd divisor (unsigned_abs entry) result }
+{
+    if entry == 0 {
+        return divisor;
+    }
+    gcd_of_magnitudes(divisor, entry.unsigned_abs())
+}
+
+/// An entry over a positive divisor of it; 0 is not divided.
+#[inline(always)]
+pub(crate) fn entry_quotient(entry: i128, divisor: i128) -> i128
+    requires positive { pos 0 <ℤ divisor }
+    requires divides { unsigned_abs divisor ∣ unsigned_abs entry }
+    ensures { result *ℤ divisor ≡ entry }
+{
+    if entry == 0 {
+        return 0;
+    }
+    exact_quotient(entry, divisor)
 }

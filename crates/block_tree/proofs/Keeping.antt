@@ -1,0 +1,314 @@
+-- What a builder keeps: each call leaves it whole.
+use Rattle.std.proofs.Common.{◌≡◌, ◌⊎◌, inl, inr, ℕ, zero, suc, ◌+◌, ◌≤◌, ◌<◌, Bool, true, false, not, ◌&&◌, ◌||◌, List, [], ◌∷◌, ◌++◌, length, map, Option, Some, None, Result, Ok, Err, refl, ap, sym, ◌∙◌, subst, arith, rules, nat_lt, nat_le, nat_eq, ◌==◌, ℤ, pos, int_lt, is_some, is_none, if◌then◌else◌, length-append}
+use Rattle.std.proofs.lemmas.List.{length-map, map-append}
+use Rattle.std.proofs.lemmas.Bool.Decides.{nat_tests}
+use Rattle.std.specs.List.{list_all, list_any}
+use Rattle.std.specs.Str.{bytes_eq}
+use Rattle.fractions.specs.Fraction.{Fraction}
+use Rattle.fractions.specs.Memory.{Acts, unless, refuse_if}
+use Rattle.lp_rows.specs.declared.kinds.Kind.{Kind}
+use Rattle.lp_rows.specs.declared.kinds.Rel.{Rel}
+use Rattle.lp_rows.specs.Holding.{ids_below}
+use Rattle.lp_rows.specs.Rows.{RowValue, is_storable, row_refusal}
+use Rattle.block_tree.specs.declared.bounds.Bound.{Bound}
+use Rattle.block_tree.specs.declared.errors.BuildError.{BuildError}
+use Rattle.block_tree.specs.declared.errors.BuildError.TheVariants.{Place, NameTwice, NameUnknown, Number, Limit, Missing, Unclosed}
+use Rattle.block_tree.specs.Building.{OpenBlock, OpenDisjunction, BuildingValue, new_building, is_empty, is_at_root, is_taken, is_bound, refusal_of_var, var_outcome, refusal_of_terms, refusal_of_row, row_outcome, are_ids_below, are_numbers, stored_row, rows_so_far, refusal_of_finish, built_model, closed_block, goal_of}
+use Rattle.block_tree.specs.Names.{has_name, is_name}
+use Rattle.block_tree.specs.Scaling.{insert_term, sorted_among, sorted_terms, scaled, scaled_terms, stored_terms, scale_of, has_id_twice}
+use Rattle.block_tree.specs.Sound.{are_names, names_of, are_rows_below, is_filled, is_block_sound, are_disjunctions_sound, are_disjuncts_sound, is_open_sound, is_opened_sound, is_placed, are_around_sound, is_goal_sound, is_given_sound, IsSound, IsWhole}
+use Rattle.block_tree.specs.Values.{GoalValue}
+use Rattle.block_tree.specs.Tree.{BlockTree, block, Disjunctions, no_disjunctions, disjunction, Disjuncts, no_disjuncts, disjunct}
+use Rattle.block_tree.specs.View.{disjuncts, disjunctions}
+
+-- a call keeps what its outcome keeps
+pub acts_keep : {S A E : Type 0} (P : S → Type 0) (memory : E) (s : S) (outcome : Result A E × S) (r : Result A E) (next : S)
+    → Acts memory s outcome r next → P s → P outcome.1 → P next
+acts_keep P memory s outcome r next a p q = elim a [ inl x ↦ subst P (sym x.1) q | inr x ↦ subst P (sym x.1) p ]
+
+-- an outcome keeps what holds and what an accepted call leaves
+pub unless_keeps : {S A E : Type 0} (P : S → Type 0) (refusal : Option E) (old : S) (answer : A) (next : S)
+    → P old → (refusal ≡ None → P next) → P (unless refusal old answer next).1
+unless_keeps P (Some e) old answer next p q = p
+unless_keeps P None old answer next p q = q refl
+
+-- a test that refuses nothing is false, and nothing below refuses
+pub refuses_not : {E : Type 0} (test : Bool) (refusal : E) (below : Option E) → refuse_if test refusal below ≡ None → (test ≡ false) × (below ≡ None)
+refuses_not true refusal below h = cc
+refuses_not false refusal below h = (refl, h)
+
+pub both : (a b : Bool) → (a && b) ≡ true → (a ≡ true) × (b ≡ true)
+both true b h = (refl, h)
+both false b h = cc
+
+pub and_true : (a b : Bool) → a ≡ true → b ≡ true → (a && b) ≡ true
+and_true true b p q = q
+and_true false b p q = cc
+
+pub neither : (a b : Bool) → (a || b) ≡ false → (a ≡ false) × (b ≡ false)
+neither true b h = cc
+neither false b h = (refl, h)
+
+pub not_false : (a : Bool) → not a ≡ false → a ≡ true
+not_false true h = refl
+not_false false h = cc
+
+all_append : {A : Type 0} (test : A → Bool) (xs ys : List A) → list_all test xs ≡ true → list_all test ys ≡ true → list_all test (xs ++ ys) ≡ true
+all_append test [] ys p q = q
+all_append test (x ∷ xs) ys p q =
+    let h = both (test x) (list_all test xs) p in and_true (test x) (list_all test (xs ++ ys)) h.0 (all_append test xs ys h.1 q)
+
+-- names: one more that differs, among others
+
+bytes_eq_swap : (a b : List ℕ) → bytes_eq a b ≡ bytes_eq b a
+bytes_eq_swap [] [] = refl
+bytes_eq_swap [] (y ∷ ys) = refl
+bytes_eq_swap (x ∷ xs) [] = refl
+bytes_eq_swap (x ∷ xs) (y ∷ ys) = let e : nat_eq x y ≡ nat_eq y x = grind (arith, nat_tests) in rw (e, bytes_eq_swap xs ys)
+
+has_middle : (n m : List ℕ) (xs ys : List (List ℕ)) → has_name n (xs ++ ys) ≡ false → bytes_eq n m ≡ false → has_name n (xs ++ m ∷ ys) ≡ false
+has_middle n m [] ys h e = rw e h
+has_middle n m (x ∷ xs) ys h e =
+    let p = neither (bytes_eq n x) (has_name n (xs ++ ys)) h in rw p.0 (has_middle n m xs ys p.1 e)
+
+pub has_append : (n : List ℕ) (xs ys : List (List ℕ)) → (has_name n xs || has_name n ys) ≡ has_name n (xs ++ ys)
+has_append n [] ys = refl
+has_append n (x ∷ xs) ys = or_assoc (bytes_eq n x) (has_name n xs) (has_name n ys) ∙ ap (λ b. bytes_eq n x || b) (has_append n xs ys)
+  where
+    or_assoc : (a b c : Bool) → ((a || b) || c) ≡ (a || (b || c))
+    or_assoc true b c = refl
+    or_assoc false b c = refl
+
+not_true : (a : Bool) → not a ≡ true → a ≡ false
+not_true true h = cc
+not_true false h = refl
+
+is_not : (a : Bool) → a ≡ false → not a ≡ true
+is_not true h = cc
+is_not false h = refl
+
+pub names_middle : (n : List ℕ) (xs ys : List (List ℕ)) → is_name n ≡ true → has_name n (xs ++ ys) ≡ false → are_names (xs ++ ys) ≡ true → are_names (xs ++ n ∷ ys) ≡ true
+names_middle n [] ys i h a =
+    and_true (is_name n && not (has_name n ys)) (are_names ys) (and_true (is_name n) (not (has_name n ys)) i (is_not (has_name n ys) h)) a
+names_middle n (x ∷ xs) ys i h a =
+    let p = neither (bytes_eq n x) (has_name n (xs ++ ys)) h in
+    let q = both (is_name x && not (has_name x (xs ++ ys))) (are_names (xs ++ ys)) a in
+    let r = both (is_name x) (not (has_name x (xs ++ ys))) q.0 in
+    let k = has_middle x n xs ys (not_true (has_name x (xs ++ ys)) r.1) (bytes_eq_swap x n ∙ p.0) in
+    and_true (is_name x && not (has_name x (xs ++ n ∷ ys))) (are_names (xs ++ n ∷ ys))
+    (and_true (is_name x) (not (has_name x (xs ++ n ∷ ys))) r.0 (is_not (has_name x (xs ++ n ∷ ys)) k))
+    (names_middle n xs ys i p.1 q.1)
+
+-- with more variables and Booleans what is named is there still
+
+lt_more : (i n k : ℕ) → n ≤ k → nat_lt i n ≡ true → nat_lt i k ≡ true
+lt_more i n k l h = grind (arith, nat_tests)
+
+ids_more : (n k : ℕ) (ts : List (ℕ × ℤ)) → n ≤ k → ids_below n ts ≡ true → ids_below k ts ≡ true
+ids_more n k [] l h = refl
+ids_more n k (t ∷ ts) l h =
+    let p = both (nat_lt t.0 n) (ids_below n ts) h in
+    and_true (nat_lt t.0 k) (ids_below k ts) (lt_more t.0 n k l p.0) (ids_more n k ts l p.1)
+
+rows_more : (n k : ℕ) (rows : List (RowValue × ℕ)) → n ≤ k → are_rows_below n rows ≡ true → are_rows_below k rows ≡ true
+rows_more n k [] l h = refl
+rows_more n k (r ∷ rs) l h =
+    let p = both (ids_below n r.0.terms) (are_rows_below n rs) h in
+    and_true (ids_below k r.0.terms) (are_rows_below k rs) (ids_more n k r.0.terms l p.0) (rows_more n k rs l p.1)
+
+mutual
+  block_more : (n k m j : ℕ) (b : BlockTree) → n ≤ k → m ≤ j → is_block_sound n m b ≡ true → is_block_sound k j b ≡ true
+  block_more n k m j (block items ds) l q h =
+      let p = both (are_rows_below n items.rows) (are_disjunctions_sound n m ds) h in
+      and_true (are_rows_below k items.rows) (are_disjunctions_sound k j ds) (rows_more n k items.rows l p.0) (disjunctions_more n k m j ds l q p.1)
+
+  disjunctions_more : (n k m j : ℕ) (ds : Disjunctions) → n ≤ k → m ≤ j → are_disjunctions_sound n m ds ≡ true → are_disjunctions_sound k j ds ≡ true
+  disjunctions_more n k m j no_disjunctions l q h = refl
+  disjunctions_more n k m j (disjunction head js ds) l q h =
+      let p = both (is_filled js && are_disjuncts_sound n m js) (are_disjunctions_sound n m ds) h in
+      let r = both (is_filled js) (are_disjuncts_sound n m js) p.0 in
+      and_true (is_filled js && are_disjuncts_sound k j js) (are_disjunctions_sound k j ds)
+      (and_true (is_filled js) (are_disjuncts_sound k j js) r.0 (disjuncts_more n k m j js l q r.1)) (disjunctions_more n k m j ds l q p.1)
+
+  pub disjuncts_more : (n k m j : ℕ) (js : Disjuncts) → n ≤ k → m ≤ j → are_disjuncts_sound n m js ≡ true → are_disjuncts_sound k j js ≡ true
+  disjuncts_more n k m j no_disjuncts l q h = refl
+  disjuncts_more n k m j (disjunct head b js) l q h =
+      let p = both (nat_lt head.indicator m && is_block_sound n m b) (are_disjuncts_sound n m js) h in
+      let r = both (nat_lt head.indicator m) (is_block_sound n m b) p.0 in
+      and_true (nat_lt head.indicator j && is_block_sound k j b) (are_disjuncts_sound k j js)
+      (and_true (nat_lt head.indicator j) (is_block_sound k j b) (lt_more head.indicator m j q r.0) (block_more n k m j b l q r.1)) (disjuncts_more n k m j js l q p.1)
+
+pub open_more : (n k m j : ℕ) (o : OpenBlock) → n ≤ k → m ≤ j → is_open_sound n m o ≡ true → is_open_sound k j o ≡ true
+open_more n k m j o l q h =
+    let p = both (are_rows_below n o.rows) (are_disjunctions_sound n m (disjunctions o.closed)) h in
+    and_true (are_rows_below k o.rows) (are_disjunctions_sound k j (disjunctions o.closed)) (rows_more n k o.rows l p.0) (disjunctions_more n k m j (disjunctions o.closed) l q p.1)
+
+pub opened_more : (n k m j : ℕ) (d : Option OpenDisjunction) → n ≤ k → m ≤ j → is_opened_sound n m d ≡ true → is_opened_sound k j d ≡ true
+opened_more n k m j None l q h = refl
+opened_more n k m j (Some d) l q h = disjuncts_more n k m j (disjuncts d.closed) l q h
+
+or_more : (a b c : Bool) → (b ≡ true → c ≡ true) → (a || b) ≡ true → (a || c) ≡ true
+or_more true b c f h = refl
+or_more false b c f h = f h
+
+pub placed_more : (m j : ℕ) (o : OpenBlock) (os : List (OpenBlock × OpenDisjunction)) → m ≤ j → is_placed m o os ≡ true → is_placed j o os ≡ true
+placed_more m j o os q h = or_more (is_empty os) (nat_lt o.indicator m) (nat_lt o.indicator j) (lt_more o.indicator m j q) h
+
+-- the four parts of what is around
+pub around_parts : (n m : ℕ) (o : OpenBlock × OpenDisjunction) (os : List (OpenBlock × OpenDisjunction)) → are_around_sound n m (o ∷ os) ≡ true
+    → (is_open_sound n m o.0 ≡ true) × (are_disjuncts_sound n m (disjuncts o.1.closed) ≡ true) × (is_placed m o.0 os ≡ true) × (are_around_sound n m os ≡ true)
+around_parts n m o os h =
+    let p = both (is_open_sound n m o.0 && are_disjuncts_sound n m (disjuncts o.1.closed) && is_placed m o.0 os) (are_around_sound n m os) h in
+    let q = both (is_open_sound n m o.0 && are_disjuncts_sound n m (disjuncts o.1.closed)) (is_placed m o.0 os) p.0 in
+    let r = both (is_open_sound n m o.0) (are_disjuncts_sound n m (disjuncts o.1.closed)) q.0 in (r.0, r.1, q.1, p.1)
+
+pub around_whole : (n m : ℕ) (o : OpenBlock × OpenDisjunction) (os : List (OpenBlock × OpenDisjunction)) → is_open_sound n m o.0 ≡ true
+    → are_disjuncts_sound n m (disjuncts o.1.closed) ≡ true → is_placed m o.0 os ≡ true → are_around_sound n m os ≡ true → are_around_sound n m (o ∷ os) ≡ true
+around_whole n m o os a b c d =
+    and_true (is_open_sound n m o.0 && are_disjuncts_sound n m (disjuncts o.1.closed) && is_placed m o.0 os) (are_around_sound n m os)
+    (and_true (is_open_sound n m o.0 && are_disjuncts_sound n m (disjuncts o.1.closed)) (is_placed m o.0 os)
+    (and_true (is_open_sound n m o.0) (are_disjuncts_sound n m (disjuncts o.1.closed)) a b) c) d
+
+pub around_more : (n k m j : ℕ) (os : List (OpenBlock × OpenDisjunction)) → n ≤ k → m ≤ j → are_around_sound n m os ≡ true → are_around_sound k j os ≡ true
+around_more n k m j [] l q h = refl
+around_more n k m j (o ∷ os) l q h =
+    let p = around_parts n m o os h in
+    around_whole k j o os (open_more n k m j o.0 l q p.0) (disjuncts_more n k m j (disjuncts o.1.closed) l q p.1) (placed_more m j o.0 os q p.2) (around_more n k m j os l q p.3)
+
+goal_more : (n k : ℕ) (g : GoalValue) → n ≤ k → is_goal_sound n g ≡ true → is_goal_sound k g ≡ true
+goal_more n k g l h = first_more (ids_below n g.terms) (ids_below k g.terms) (is_none (row_refusal g.terms g.constant)) (int_lt (pos 0) g.scale) (is_storable g.scale) (ids_more n k g.terms l) h
+  where
+    first_more : (a b c d e : Bool) → (a ≡ true → b ≡ true) → (a && c && d && e) ≡ true → (b && c && d && e) ≡ true
+    first_more true b c d e f q = rw (f refl) q
+    first_more false b c d e f q = cc
+
+pub given_more : (n k : ℕ) (g : Option GoalValue) → n ≤ k → is_given_sound n g ≡ true → is_given_sound k g ≡ true
+given_more n k None l h = refl
+given_more n k (Some g) l h = goal_more n k g l h
+
+-- a variable
+
+pub below_limit : (most n : ℕ) → nat_le most n ≡ false → n + 1 ≤ most
+below_limit most n h = grind (arith, nat_tests)
+
+pub var_keeps_whole : (name : List ℕ) (kind : Kind) (bound : Bound) (mark : ℕ) (b : BuildingValue) → IsWhole b → IsWhole (var_outcome name kind bound mark b).1
+var_keeps_whole name kind bound mark b w =
+    unless_keeps IsWhole (refusal_of_var name bound b) b (length b.vars) (record b { vars = b.vars ++ (name, kind, bound, mark) ∷ [] }) w (λ h.
+    let p = refuses_not (not (is_at_root b)) Place (refuse_if (is_taken name b) NameTwice (refuse_if (not (is_bound bound)) Number (refuse_if (nat_le 500 (length b.vars) || not (is_name name)) Limit None))) h in
+    let q = refuses_not (is_taken name b) NameTwice (refuse_if (not (is_bound bound)) Number (refuse_if (nat_le 500 (length b.vars) || not (is_name name)) Limit None)) p.1 in
+    let r = refuses_not (not (is_bound bound)) Number (refuse_if (nat_le 500 (length b.vars) || not (is_name name)) Limit None) q.1 in
+    let s = refuses_not (nat_le 500 (length b.vars) || not (is_name name)) Limit None r.1 in
+    let t = neither (nat_le 500 (length b.vars)) (not (is_name name)) s.0 in
+    let f = sym (has_append name (map (λ v. v.0) b.vars) (map (λ v. v.0) b.booleans)) ∙ q.0 in
+    let e : length (b.vars ++ (name, kind, bound, mark) ∷ []) ≡ length b.vars + 1 = length-append b.vars ((name, kind, bound, mark) ∷ []) in
+    record {
+      few_variables = rw e (below_limit 500 (length b.vars) t.0);
+      few_booleans = w.few_booleans;
+      few_rows = w.few_rows;
+      goal = rw e (given_more (length b.vars) (length b.vars + 1) b.goal (omega arith) w.goal);
+      inner = rw e (open_more (length b.vars) (length b.vars + 1) (length b.booleans) (length b.booleans) b.inner (omega arith) (omega arith) w.inner);
+      opened = rw e (opened_more (length b.vars) (length b.vars + 1) (length b.booleans) (length b.booleans) b.opened (omega arith) (omega arith) w.opened);
+      placed = w.placed;
+      outer = rw e (around_more (length b.vars) (length b.vars + 1) (length b.booleans) (length b.booleans) b.outer (omega arith) (omega arith) w.outer);
+      names = rw (map-append (λ v. v.0) b.vars ((name, kind, bound, mark) ∷ []))
+          (rw (append_one (map (λ v. v.0) b.vars) name (map (λ v. v.0) b.booleans))
+          (names_middle name (map (λ v. v.0) b.vars) (map (λ v. v.0) b.booleans) (not_false (is_name name) t.1) f w.names));
+    })
+  where
+    append_one : {A : Type 0} (xs : List A) (y : A) (ys : List A) → (xs ++ y ∷ []) ++ ys ≡ xs ++ y ∷ ys
+    append_one [] y ys = refl
+    append_one (x ∷ xs) y ys = ap (λ l. x ∷ l) (append_one xs y ys)
+
+-- a row
+
+ids_put : {A : Type 0} (b : Bool) (n : ℕ) (t u : ℕ × A) (us : List (ℕ × A)) → are_ids_below n (t ∷ u ∷ us) ≡ true
+    → are_ids_below n (u ∷ insert_term t us) ≡ true → are_ids_below n (if b then t ∷ u ∷ us else u ∷ insert_term t us) ≡ true
+ids_put true n t u us h k = h
+ids_put false n t u us h k = k
+
+ids_inserted : {A : Type 0} (n : ℕ) (t : ℕ × A) (ts : List (ℕ × A)) → are_ids_below n (t ∷ ts) ≡ true → are_ids_below n (insert_term t ts) ≡ true
+ids_inserted n t [] h = h
+ids_inserted n t (u ∷ us) h =
+    let p = both (nat_lt t.0 n) (are_ids_below n (u ∷ us)) h in
+    let q = both (nat_lt u.0 n) (are_ids_below n us) p.1 in
+    ids_put (nat_lt t.0 u.0) n t u us h
+    (and_true (nat_lt u.0 n) (are_ids_below n (insert_term t us)) q.0 (ids_inserted n t us (and_true (nat_lt t.0 n) (are_ids_below n us) p.0 q.1)))
+
+pub ids_sorted : {A : Type 0} (n : ℕ) (placed ts : List (ℕ × A)) → are_ids_below n placed ≡ true → are_ids_below n ts ≡ true → are_ids_below n (sorted_among placed ts) ≡ true
+ids_sorted n placed [] p q = p
+ids_sorted n placed (t ∷ ts) p q =
+    let h = both (nat_lt t.0 n) (are_ids_below n ts) q in
+    ids_sorted n (insert_term t placed) ts (ids_inserted n t placed (and_true (nat_lt t.0 n) (are_ids_below n placed) h.0 p)) h.1
+
+pub ids_scaled : (n k : ℕ) (ts : List (ℕ × Fraction)) → ids_below n (scaled_terms k ts) ≡ are_ids_below n ts
+ids_scaled n k [] = refl
+ids_scaled n k (t ∷ ts) = ap (λ b. nat_lt t.0 n && b) (ids_scaled n k ts)
+
+pub row_keeps_whole : (terms : List (ℕ × Fraction)) (rel : Rel) (right : Fraction) (mark : ℕ) (b : BuildingValue) → IsWhole b → IsWhole (row_outcome terms rel right mark b).1
+row_keeps_whole terms rel right mark b w =
+    let row = stored_row terms rel right in
+    let next : BuildingValue = record b { inner = record b.inner { rows = b.inner.rows ++ (row, mark) ∷ [] } } in
+    unless_keeps IsWhole (refusal_of_row terms right b) b tt next w (λ h.
+    let limit : Option BuildError = refuse_if (nat_le 1000 (rows_so_far b)) Limit None in
+    let k = scale_of terms right in
+    let p = refuses_not (is_some b.opened) Place (refusal_of_terms (length b.vars) terms right limit) h in
+    let q = refuses_not (has_id_twice terms) NameTwice (refuse_if (not (are_ids_below (length b.vars) terms)) NameUnknown (refuse_if (not (are_numbers k terms right)) Number limit)) p.1 in
+    let r = refuses_not (not (are_ids_below (length b.vars) terms)) NameUnknown (refuse_if (not (are_numbers k terms right)) Number limit) q.1 in
+    let s = refuses_not (not (are_numbers k terms right)) Number limit r.1 in
+    let t = refuses_not (nat_le 1000 (rows_so_far b)) Limit None s.1 in
+    let ids : ids_below (length b.vars) row.terms ≡ true =
+    ids_scaled (length b.vars) k (sorted_terms terms) ∙ ids_sorted (length b.vars) [] terms refl (not_false (are_ids_below (length b.vars) terms) r.0) in
+    let e : length (b.inner.rows ++ (row, mark) ∷ []) ≡ length b.inner.rows + 1 = length-append b.inner.rows ((row, mark) ∷ []) in
+    let m = below_limit 1000 (rows_so_far b) t.0 in
+    let x = both (are_rows_below (length b.vars) b.inner.rows) (are_disjunctions_sound (length b.vars) (length b.booleans) (disjunctions b.inner.closed)) w.inner in
+    let y : are_rows_below (length b.vars) (b.inner.rows ++ (row, mark) ∷ []) ≡ true =
+    all_append (λ a. ids_below (length b.vars) a.0.terms) b.inner.rows ((row, mark) ∷ []) x.0 (and_true (ids_below (length b.vars) row.terms) true ids refl) in
+    record {
+      few_variables = w.few_variables;
+      few_booleans = w.few_booleans;
+      few_rows = omega (arith, e, m);
+      names = w.names;
+      goal = w.goal;
+      inner = and_true (are_rows_below (length b.vars) next.inner.rows) (are_disjunctions_sound (length b.vars) (length b.booleans) (disjunctions b.inner.closed)) y x.1;
+      opened = w.opened;
+      placed = w.placed;
+      outer = w.outer;
+    })
+
+-- the builder that is new, and the model that is made
+
+pub new_is_whole : IsWhole new_building
+new_is_whole = record {
+  few_variables = omega arith;
+  few_booleans = omega arith;
+  few_rows = omega arith;
+  names = refl;
+  goal = refl;
+  inner = refl;
+  opened = refl;
+  placed = refl;
+  outer = refl;
+}
+
+goal_is_sound : (n : ℕ) (g : Option GoalValue) → is_given_sound n g ≡ true → is_goal_sound n (goal_of g) ≡ true
+goal_is_sound n None h = refl
+goal_is_sound n (Some g) h = h
+
+pub built_is_sound : (b : BuildingValue) → IsWhole b → refusal_of_finish b ≡ None → IsSound (built_model b)
+built_is_sound b w h =
+    let p = refuses_not (not (is_at_root b)) Unclosed (refuse_if (is_empty b.vars) Missing None) h in
+    let q = refuses_not (is_empty b.vars) Missing None p.1 in
+    record {
+      some_variable = q.0;
+      few_variables = w.few_variables;
+      few_booleans = w.few_booleans;
+      few_rows = omega (arith, w.few_rows);
+      names = w.names;
+      goal = goal_is_sound (length b.vars) b.goal w.goal;
+      root = w.inner;
+    }
+
+pub var_keeps_rows : (name : List ℕ) (kind : Kind) (bound : Bound) (mark : ℕ) (b : BuildingValue) → rows_so_far (var_outcome name kind bound mark b).1 ≡ rows_so_far b
+var_keeps_rows name kind bound mark b =
+    unless_keeps (λ s. rows_so_far s ≡ rows_so_far b) (refusal_of_var name bound b) b (length b.vars)
+    (record b { vars = b.vars ++ (name, kind, bound, mark) ∷ [] }) refl (λ _. refl)

@@ -1,0 +1,15 @@
+use Rattle.block_tree.specs.declared.errors.BuildError.TheVariants.{Memory}
+use Rattle.block_tree.specs.Builders.{building_of}
+use Rattle.block_tree.specs.Building.{row_outcome}
+use Rattle.block_tree.specs.Sound.{IsWhole}
+use Rattle.block_tree.proofs.Keeping.{acts_keep, row_keeps_whole}
+use Rattle.block_tree.proofs.builder.ModelBuilder.row.Goals as goal
+
+pub invariant_of-self : goal.invariant_of-self
+invariant_of-self c =
+    let b = building_of c.args.self.now.parts in
+    record {
+      whole = acts_keep IsWhole Memory b (row_outcome c.args.terms.now c.args.rel c.args.right c.args.mark b) c.row.result (building_of c.row.new.self)
+          c.row.ensures.acts c.args.self.now.whole (row_keeps_whole c.args.terms.now c.args.rel c.args.right c.args.mark b c.args.self.now.whole);
+      counted = c.row.ensures.counted;
+    }

@@ -1,0 +1,214 @@
+-- What the lines of a text add to the model: blank lines, the header, and the variables and rows after it.
+use Rattle.std.proofs.Common.{◌≡◌, ℕ, ◌+◌, Bool, true, false, not, ◌&&◌, if◌then◌else◌, List, [], ◌∷◌, ◌++◌, length, Option, Some, None, is_some, Result, Ok, refl, ap, sym, ◌∙◌, subst, arith}
+use Rattle.std.specs.List.{list_all}
+use Rattle.std.proofs.lemmas.List.{append-nil, append_assoc, map-append}
+use Rattle.fractions.specs.Fraction.{Fraction}
+use Rattle.fractions.specs.Memory.{unless, refused_or}
+use Rattle.lp_rows.specs.declared.kinds.Kind.{Kind}
+use Rattle.lp_rows.specs.declared.kinds.Rel.{Rel}
+use Rattle.lp_rows.specs.Rows.{RowValue}
+use Rattle.block_tree.specs.declared.bounds.Bound.{Bound}
+use Rattle.block_tree.specs.declared.errors.BuildError.{BuildError}
+use Rattle.block_tree.specs.Building.{BuildingValue, is_at_root, is_taken, refusal_of_var, refusal_of_row, refusal_of_finish, stored_row, built_model}
+use Rattle.block_tree.specs.Values.{ModelTree}
+use Rattle.block_tree.specs.Variables.{VarValue}
+use Rattle.gdp_grammar.specs.declared.cause.ReadCause.{ReadCause}
+use Rattle.gdp_grammar.specs.declared.cause.ReadCause.TheVariants as cause
+use Rattle.gdp_grammar.specs.Causes.{refuse_if}
+use Rattle.gdp_grammar.specs.Declaring.{is_blank, form_on, end_value, var_in, row_in, vars_from, rows_from, marks_of, own_rows}
+use Rattle.gdp_grammar.specs.Forms.{Form, Var, Row, Signed, Summand, form_of}
+use Rattle.gdp_grammar.specs.Laws.{LaidOut}
+use Rattle.gdp_grammar.specs.Lines.{lines_of, without_comment}
+use Rattle.gdp_grammar.specs.Reading.{Taken, nothing_taken, or_cause, value_of, end_of, after_call, with_var, named, has_twice, known_terms, valued_terms, with_row, with_form, is_header, with_header, with_tokens, with_line, finished, model_after}
+use Rattle.gdp_grammar.specs.Plain.{is_some_word}
+use Rattle.gdp_grammar.specs.Spelling.{Leads}
+use Rattle.gdp_grammar.specs.Tokens.{Piece, tokens_of}
+use Rattle.gdp_grammar.specs.Words.{words_of}
+use Rattle.gdp_grammar.proofs.Sums.{bind_ok}
+
+-- what a builder has after a call that adds these variables and rows with these marks
+record Grows (old new : BuildingValue) (vars : List VarValue) (marks : List ℕ) : Type 0 where
+  vars_after : new.vars ≡ old.vars ++ vars
+  marks_after : marks_of new.inner.rows ≡ marks_of old.inner.rows ++ marks
+
+grows_none : (old new : BuildingValue) → old ≡ new → Grows old new [] []
+grows_none old new same = subst (λ (b : BuildingValue). Grows old b [] []) same (record { vars_after = sym (append-nil old.vars); marks_after = sym (append-nil (marks_of old.inner.rows)) })
+
+-- a call that is not refused leaves what it makes
+called : {A B : Type 0} (refusal : Option BuildError) (old : B) (answer : A) (made new : B) → after_call (unless refusal old answer made) ≡ Ok new → made ≡ new
+called (Some r) old answer made new e = absurd (cc e)
+called None old answer made new e = cc e
+
+-- the value that is there
+valued : {A : Type 0} (cause : ReadCause) (o : Option A) (x : A) → or_cause cause o ≡ Ok x → o ≡ Some x
+valued c None x e = absurd (cc e)
+valued {A} c (Some y) x e = ap (λ (z : A). some_of z) (cc e)
+  where
+    some_of : A → Option A
+    some_of z = Some z
+
+-- an end that is read is the value written
+end_read : (s : Option Signed) (end : Option Fraction) → end_of s ≡ Ok end → end ≡ end_value s
+end_read None end e = cc e
+end_read (Some s) end e =
+    let value = bind_ok (or_cause cause.Number (value_of s.is_negative s.size)) (λ value. Ok (Some value)) end e in
+    let last : Ok (Some value.0) ≡ Ok end = value.2 in
+    sym (cc last) ∙ sym (valued cause.Number (value_of s.is_negative s.size) value.0 value.1)
+
+-- a variable's line adds it
+var_grows : (b new : BuildingValue) (line : ℕ) (name : List ℕ) (kind : Kind) (low high : Option Signed) → with_var b line name kind low high ≡ Ok new → Grows b new (var_in line (Ok (Var name kind low high))) []
+unfolding with_var
+var_grows b new line name kind low high e =
+    let place = bind_ok (refuse_if (not (is_at_root b)) cause.Form) _ new e in
+    let free = bind_ok (refuse_if (is_taken name b) cause.NameTwice) _ new place.2 in
+    let lower = bind_ok (end_of low) _ new free.2 in
+    let upper = bind_ok (end_of high) _ new lower.2 in
+    let bound : Bound = record { low = lower.0; high = upper.0 } in
+    let made = called (refusal_of_var name bound b) b (length b.vars) (record b { vars = b.vars ++ (name, kind, bound, line) ∷ [] }) new upper.2 in
+    subst (λ (n : BuildingValue). Grows b n (var_in line (Ok (Var name kind low high))) []) made
+    (record {
+      vars_after = ap (λ (x : Option Fraction). b.vars ++ (name, kind, record { low = x; high = upper.0 }, line) ∷ []) (end_read low lower.0 lower.1)
+          ∙ ap (λ (x : Option Fraction). b.vars ++ (name, kind, record { low = end_value low; high = x }, line) ∷ []) (end_read high upper.0 upper.1);
+      marks_after = sym (append-nil (marks_of b.inner.rows));
+    })
+
+-- a row's line adds a row with its number
+row_grows : (b new : BuildingValue) (line : ℕ) (sum : List Summand) (rel : Rel) (right : Signed) → with_row b line sum rel right ≡ Ok new → Grows b new [] (line ∷ [])
+unfolding with_row
+row_grows b new line sum rel right e =
+    let place = bind_ok (refuse_if (is_some b.opened) cause.Form) _ new e in
+    let twice = bind_ok (refuse_if (has_twice (named b.vars sum)) cause.NameTwice) _ new place.2 in
+    let known = bind_ok (known_terms b.vars sum) _ new twice.2 in
+    let terms = bind_ok (valued_terms known.0) _ new known.2 in
+    let number = bind_ok (or_cause cause.Number (value_of right.is_negative right.size)) _ new terms.2 in
+    let row : RowValue × ℕ = (stored_row terms.0 rel number.0, line) in
+    let made = called (refusal_of_row terms.0 number.0 b) b tt (record b { inner = record b.inner { rows = b.inner.rows ++ row ∷ [] } }) new number.2 in
+    subst (λ (n : BuildingValue). Grows b n [] (line ∷ [])) made
+    (record { vars_after = sym (append-nil b.vars); marks_after = map-append (λ (r : RowValue × ℕ). r.1) b.inner.rows (row ∷ []) })
+
+form_grows : (b new : BuildingValue) (line : ℕ) (form : Form) → with_form b line form ≡ Ok new → Grows b new (var_in line (Ok form)) (row_in line (Ok form))
+form_grows b new line (Var name kind low high) e = var_grows b new line name kind low high e
+form_grows b new line (Row sum rel right) e = row_grows b new line sum rel right e
+
+-- what a line after the header adds
+record Adds (t next : Taken) (vars : List VarValue) (marks : List ℕ) : Type 0 where
+  headed : next.headed ≡ t.headed
+  grows : Grows t.building next.building vars marks
+
+tokens_add : (t next : Taken) (line : ℕ) (ps : List Piece) → with_tokens t line ps ≡ Ok next → Adds t next (var_in line (form_of ps)) (row_in line (form_of ps))
+tokens_add t next line [] e =
+    let same : t ≡ next = cc e in
+    record { headed = ap (λ (x : Taken). x.headed) (sym same); grows = grows_none t.building next.building (ap (λ (x : Taken). x.building) same) }
+tokens_add t next line (p ∷ ps) e =
+    let form = bind_ok (form_of (p ∷ ps)) _ next e in
+    let building = bind_ok (with_form t.building line form.0) _ next form.2 in
+    let made : Taken = record t { building = building.0 } in
+    let last : Ok made ≡ Ok next = building.2 in
+    let same : made ≡ next = cc last in
+    subst (λ (r : Result Form ReadCause). Adds t next (var_in line r) (row_in line r)) (sym form.1)
+    (subst (λ (n : Taken). Adds t n (var_in line (Ok form.0)) (row_in line (Ok form.0))) same
+    (record { headed = refl; grows = form_grows t.building building.0 line form.0 building.1 }))
+
+-- a line after the header, and one before it
+headed_line : (t : Taken) (line : ℕ) (l : List ℕ) → t.headed ≡ true → with_line t line l ≡ with_tokens t line (tokens_of (without_comment l))
+unfolding with_line
+headed_line t line l h = ap (λ (b : Bool). if b then with_tokens t line (tokens_of (without_comment l)) else with_header t (words_of (without_comment l))) h
+
+first_line : (t : Taken) (line : ℕ) (l : List ℕ) → t.headed ≡ false → with_line t line l ≡ with_header t (words_of (without_comment l))
+unfolding with_line
+first_line t line l h = ap (λ (b : Bool). if b then with_tokens t line (tokens_of (without_comment l)) else with_header t (words_of (without_comment l))) h
+
+line_adds : (t next : Taken) (line : ℕ) (l : List ℕ) → t.headed ≡ true → with_line t line l ≡ Ok next → Adds t next (var_in line (form_on l)) (row_in line (form_on l))
+line_adds t next line l h e = tokens_add t next line (tokens_of (without_comment l)) (sym (headed_line t line l h) ∙ e)
+
+-- the lines after the header add their variables and rows
+lines_add : (line : ℕ) (t after : Taken) (ls : List (List ℕ)) → t.headed ≡ true → Leads line t ls after → Grows t.building after.building (vars_from line ls) (rows_from line ls)
+lines_add line t after [] h e = grows_none t.building after.building (ap (λ (x : Taken). x.building) e)
+lines_add line t after (l ∷ ls) h lead =
+    let one = line_adds t lead.0 line l h lead.1 in
+    let more = lines_add (line + 1) lead.0 after ls (one.headed ∙ h) lead.2 in
+    record {
+      vars_after = more.vars_after ∙ ap (λ (xs : List VarValue). xs ++ vars_from (line + 1) ls) one.grows.vars_after ∙ append_assoc t.building.vars (var_in line (form_on l)) (vars_from (line + 1) ls);
+      marks_after = more.marks_after ∙ ap (λ (xs : List ℕ). xs ++ rows_from (line + 1) ls) one.grows.marks_after ∙ append_assoc (marks_of t.building.inner.rows) (row_in line (form_on l)) (rows_from (line + 1) ls);
+    }
+
+-- the test was passed
+passed : (b : Bool) (cause : ReadCause) (u : Unit {0}) → refuse_if (not b) cause ≡ Ok u → b ≡ true
+passed true c u e = refl
+passed false c u e = absurd (cc e)
+
+-- the lines up to the header, and what leads on from it
+record Headed (line : ℕ) (t after : Taken) (ls : List (List ℕ)) : Type 0 where
+  blank : List (List ℕ)
+  header : List ℕ
+  others : List (List ℕ)
+  cut : ls ≡ blank ++ header ∷ others
+  are_blank : list_all is_blank blank ≡ true
+  is_first : is_header (words_of (without_comment header)) ≡ true
+  lead : Leads (line + length blank + 1) (record t { headed = true }) others after
+
+headed : (line : ℕ) (t after : Taken) (ls : List (List ℕ)) → t.headed ≡ false → after.headed ≡ true → Leads line t ls after → Headed line t after ls
+headed line t after [] off on e =
+    let both : false ≡ true = sym off ∙ ap (λ (x : Taken). x.headed) e ∙ on in
+    absurd (cc both)
+headed line t after (l ∷ ls) off on lead = go (words_of (without_comment l)) refl (sym (first_line t line l off) ∙ lead.1) (λ next. headed (line + 1) t after ls off on next)
+  where
+    go : (ws : List (List ℕ)) → words_of (without_comment l) ≡ ws → with_header t ws ≡ Ok lead.0 → (Leads (line + 1) t ls after → Headed (line + 1) t after ls) → Headed line t after (l ∷ ls)
+    go [] is e below =
+        let same : t ≡ lead.0 = cc e in
+        let more = below (subst (λ (x : Taken). Leads (line + 1) x ls after) (sym same) lead.2) in
+        record {
+          blank = l ∷ more.blank;
+          header = more.header;
+          others = more.others;
+          cut = ap (λ (xs : List (List ℕ)). l ∷ xs) more.cut;
+          are_blank = ap (λ (ws : List (List ℕ)). not (is_some_word ws) && list_all is_blank more.blank) is ∙ more.are_blank;
+          is_first = more.is_first;
+          lead = subst (λ (n : ℕ). Leads n (record t { headed = true }) more.others after) (omega (arith)) more.lead;
+        }
+    go (w ∷ ws) is e below =
+        let test = bind_ok (refuse_if (not (is_header (w ∷ ws))) cause.Header) _ lead.0 e in
+        let made : Taken = record t { headed = true } in
+        let last : Ok made ≡ Ok lead.0 = test.2 in
+        let same : made ≡ lead.0 = cc last in
+        record {
+          blank = [];
+          header = l;
+          others = ls;
+          cut = refl;
+          are_blank = refl;
+          is_first = ap is_header is ∙ passed (is_header (w ∷ ws)) cause.Header test.0 test.1;
+          lead = subst (λ (n : ℕ). Leads n made ls after) (omega (arith)) (subst (λ (x : Taken). Leads (line + 1) x ls after) (sym same) lead.2);
+        }
+
+-- the model that is made at the end
+made_model : (refusal : Option BuildError) (made m : ModelTree) → finished (refused_or refusal made) ≡ Ok m → made ≡ m
+made_model (Some r) made m e = absurd (cc e)
+made_model None made m e = cc e
+
+record Ends (t : Taken) (m : ModelTree) : Type 0 where
+  headed : t.headed ≡ true
+  made : built_model t.building ≡ m
+
+ends : (t : Taken) (m : ModelTree) → model_after t ≡ Ok m → Ends t m
+unfolding model_after
+ends t m e =
+    let test = bind_ok (refuse_if (not t.headed) cause.Header) _ m e in
+    record { headed = passed t.headed cause.Header test.0 test.1; made = made_model (refusal_of_finish t.building) (built_model t.building) m test.2 }
+
+pub laid_out : LaidOut
+laid_out text m s =
+    let end = ends s.0 m s.2 in
+    let h = headed 1 nothing_taken s.0 (lines_of text) refl end.headed s.1 in
+    let grown = lines_add (1 + length h.blank + 1) (record nothing_taken { headed = true }) s.0 h.others refl h.lead in
+    let line : 1 + length h.blank + 1 ≡ length h.blank + 2 = omega (arith) in
+    record {
+      blank = h.blank;
+      header = h.header;
+      lines = h.others;
+      cut = h.cut;
+      are_blank = h.are_blank;
+      is_first = h.is_first;
+      vars = ap (λ (x : ModelTree). x.vars) (sym end.made) ∙ grown.vars_after ∙ ap (λ (n : ℕ). vars_from n h.others) line;
+      rows = ap (λ (x : ModelTree). marks_of (own_rows x.root)) (sym end.made) ∙ grown.marks_after ∙ ap (λ (n : ℕ). rows_from n h.others) line;
+    }

@@ -1,0 +1,51 @@
+-- Laws of model texts. Each is the contract of a function of `laws`.
+use Rattle.std.specs.Prelude.{◌≡◌, ◌⊎◌, ℕ, ◌+◌, true, List, [], ◌∷◌, ◌++◌, length}
+use Rattle.std.specs.List.{list_all}
+use Rattle.block_tree.specs.Values.{ModelTree}
+use Rattle.gdp_grammar.specs.declared.cause.ReadCause.{ReadCause}
+use Rattle.gdp_grammar.specs.declared.cause.ReadCause.TheVariants as cause
+use Rattle.gdp_grammar.specs.Declaring.{is_blank, vars_from, rows_from, marks_of, own_rows}
+use Rattle.gdp_grammar.specs.Lines.{lines_of, without_comment}
+use Rattle.gdp_grammar.specs.Reading.{is_header}
+use Rattle.gdp_grammar.specs.Spelling.{Spells, IsFirstBad}
+use Rattle.gdp_grammar.specs.Words.{words_of}
+use Rattle.gdp_grammar.specs.Worked as worked
+
+-- a text spells at most one model
+abbrev pub OneModel : Type 0
+OneModel = (text : List ℕ) (m m' : ModelTree) → Spells text m → Spells text m' → m ≡ m'
+
+-- every text spells a model or has a first bad line
+abbrev pub SpelledOrBad : Type 0
+SpelledOrBad = (text : List ℕ) → ((m : ModelTree) × Spells text m) ⊎ ((line : ℕ) × (cause : ReadCause) × IsFirstBad text line cause)
+
+-- no text does both
+abbrev pub NeverBoth : Type 0
+NeverBoth = (text : List ℕ) (m : ModelTree) (line : ℕ) (cause : ReadCause) → Spells text m → ¬ IsFirstBad text line cause
+
+-- a text has at most one first bad line, with one cause
+abbrev pub OneFirstBad : Type 0
+OneFirstBad = (text : List ℕ) (line line' : ℕ) (cause cause' : ReadCause) → IsFirstBad text line cause → IsFirstBad text line' cause' → (line ≡ line') × (cause ≡ cause')
+
+-- The text is blank lines, the header, and further lines. Those declare the model's variables, in order, each with the
+-- number of its line as its mark; and the marks of the model's rows are the numbers of the lines that are rows.
+pub record IsLaidOut (text : List ℕ) (m : ModelTree) : Type 0 where
+  pub blank : List (List ℕ)
+  pub header : List ℕ
+  pub lines : List (List ℕ)
+  pub cut : lines_of text ≡ blank ++ header ∷ lines
+  pub are_blank : list_all is_blank blank ≡ true
+  pub is_first : is_header (words_of (without_comment header)) ≡ true
+  pub vars : m.vars ≡ vars_from (length blank + 2) lines
+  pub rows : marks_of (own_rows m.root) ≡ rows_from (length blank + 2) lines
+
+-- a text that spells a model is laid out so
+abbrev pub LaidOut : Type 0
+LaidOut = (text : List ℕ) (m : ModelTree) → Spells text m → IsLaidOut text m
+
+-- A text of the header, one variable and one row spells their model. A number after `gdp` that is not spelled `1` is no
+-- header, and neither is the want of any line.
+pub record WorkedTexts : Type 0 where
+  pub spelled : Spells worked.text worked.model
+  pub other_version : IsFirstBad worked.padded 1 cause.Header
+  pub no_lines : IsFirstBad [] 1 cause.Header

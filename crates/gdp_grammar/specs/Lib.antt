@@ -1,0 +1,16 @@
+pub mod Causes
+pub mod Classes
+pub mod Declaring
+pub mod Following
+pub mod Forms
+pub mod Keywords
+pub mod Laws
+pub mod Lines
+pub mod Numerals
+pub mod Plain
+pub mod Points
+pub mod Reading
+pub mod Spelling
+pub mod Tokens
+pub mod Words
+pub mod Worked

@@ -1,0 +1,27 @@
+//! One run of a standard form by Bland's rule.
+
+use exact_simplex::{Log, Outcome, Tableau};
+use fractions::Memory;
+use lp_frame::StandardForm;
+use std::alloc::Global;
+
+/// The most moves of a run.
+const MOST: u32 = 100_000;
+
+/// A run: its moves, and how it ended.
+#[derive(Drop)]
+pub struct Replayed {
+    /// The moves.
+    pub log: Log,
+    /// How the run ended.
+    pub outcome: Outcome,
+}
+
+/// Makes Bland's moves from the slack basis to the end.
+pub fn replay(alloc: Global, form: &StandardForm) -> Result<Replayed, Memory> {
+    let mut tableau = Tableau::make(alloc, form)?;
+    let mut log = Log::new(alloc, MOST)?;
+    let mut steps = MOST;
+    let outcome = tableau.run(&mut steps, &mut log);
+    Ok(Replayed { log, outcome })
+}
