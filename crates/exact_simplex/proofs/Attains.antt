@@ -1,22 +1,20 @@
 -- The point of the basis is a multiple of a basic solution, so it attains the level too.
-use Rattle.std.proofs.Common.{◌≡◌, ◌≢◌, ◌<◌, ◌≤◌, ◌+◌, ◌⊎◌, ℕ, ℤ, pos, ◌+ℤ◌, ◌*ℤ◌, ◌<ℤ◌, ◌≤ℤ◌, neg_ℤ, List, [], length, All, get_or, arith, refl, ap, sym, ◌∙◌, subst, inl, inr}
+use Rattle.std.proofs.Common.{◌≡◌, ◌≢◌, ◌<◌, ◌+◌, ◌⊎◌, ℕ, ℤ, pos, ◌*ℤ◌, ◌<ℤ◌, neg_ℤ, List, [], arith, refl, ap, sym, ◌∙◌, subst, inl, inr}
 use Rattle.std.proofs.lemmas.Int.{ints}
-use Rattle.std.proofs.lemmas.Bool.{cases_eq, and_parts}
-use Rattle.std.proofs.lemmas.List.{get_or_default}
+use Rattle.std.proofs.lemmas.Bool.{cases_eq}
 use lib.IntN.{*ℤ_comm}
 use Rattle.int_linear.specs.Sums.{at}
 use Rattle.int_linear.specs.Terms.{dot, AllBelow}
-use Rattle.int_linear.proofs.Ring.{products, mul_zero, zero_mul, mul_neg, neg_mul, mul_cancel, le_cancel, le_mul, mul_nonneg, mul_assoc}
+use Rattle.int_linear.proofs.Ring.{products, mul_zero, mul_neg, mul_cancel, le_cancel, le_mul, mul_nonneg, mul_assoc}
 use Rattle.int_linear.proofs.Signs.{nonneg_cancel}
 use Rattle.int_linear.proofs.Dots.{dot_scale, dot_same_below}
 use Rattle.simplex_rows.specs.Tableau.{IsDirection}
 use Rattle.simplex_rows.proofs.Directions.{basic_or_not, has_direction}
-use Rattle.lp_frame.specs.declared.force.AtMost.{AtMost}
 use Rattle.lp_frame.specs.Force.{HoldsAt}
-use Rattle.lp_frame.specs.Standard.{Standard, IsStandardPoint}
+use Rattle.lp_frame.specs.Standard.{Standard}
 use Rattle.lp_frame.proofs.Terms.{terms_below}
 use Rattle.lp_rows.specs.Points.{PointValue}
-use Rattle.exact_simplex.specs.Table.{Table, IsSound, entry, right_side, basic, artificial, right, scale, width}
+use Rattle.exact_simplex.specs.Table.{Table, IsSound, entry, right_side, basic, right, scale, width}
 use Rattle.exact_simplex.specs.Equations.{row_at, IsTableauOf}
 use Rattle.exact_simplex.specs.Values.{own, IsPointOf}
 use Rattle.exact_simplex.specs.Laws.{HasNoArtificial, IsFeasible, IsBasicSolution, AttainsLevel}

@@ -1,5 +1,5 @@
 -- The common denominator, row by row, and the numerators over it.
-use Rattle.std.proofs.Common.{◌≡◌, ◌≢◌, ◌<◌, ◌≤◌, ◌+◌, ◌⊎◌, ℕ, zero, suc, ℤ, pos, negsuc, ◌*ℤ◌, ◌<ℤ◌, List, length, get_or, set, arith, refl, ap, sym, ◌∙◌, subst, inl, inr}
+use Rattle.std.proofs.Common.{◌≡◌, ◌≢◌, ◌<◌, ◌≤◌, ◌+◌, ℕ, ℤ, pos, ◌*ℤ◌, List, set, arith, ap, sym, ◌∙◌, subst, inl, inr}
 use Rattle.std.proofs.lemmas.Int.{ints}
 use Rattle.std.proofs.lemmas.Bool.{cases_eq}
 use Rattle.std.proofs.lemmas.List.{get_or-set_same, get_or-set_other, length-set}
@@ -12,7 +12,7 @@ use Rattle.simplex_rows.specs.Width.{IsFactors}
 use Rattle.simplex_rows.proofs.Factors.{factors_same}
 use Rattle.simplex_rows.proofs.Directions.{basis_differs}
 use Rattle.exact_simplex.specs.Table.{Table, IsSound, entry, right_side, basic, width}
-use Rattle.exact_simplex.specs.Values.{own, IsCommon, IsWideCommon, AreNumerators, IsWideNumerator, IsNextCommon, IsNextWide, DividesOver, IsPointOf, IsPointRefusal}
+use Rattle.exact_simplex.specs.Values.{own, IsCommon, IsWideCommon, AreNumerators, IsNextCommon, IsNextWide, DividesOver, IsPointOf, IsPointRefusal}
 use Rattle.exact_simplex.specs.Bland.{table_of}
 use Rattle.lp_rows.specs.Points.{PointValue}
 use Rattle.lp_rows.specs.declared.columns.WideAt.TheVariants.{Entry, Over, Ray, Leaf, Sum, RaySum, Value}

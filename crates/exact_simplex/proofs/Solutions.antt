@@ -1,13 +1,13 @@
 -- The basic solution is a point of the standard form, and the direction along an unbounded column is a ray.
-use Rattle.std.proofs.Common.{◌≡◌, ◌≢◌, ◌<◌, ◌≤◌, ◌+◌, ◌==◌, ◌++◌, ◌&&◌, ◌⊎◌, ℕ, zero, suc, ℤ, pos, negsuc, ◌+ℤ◌, ◌*ℤ◌, ◌<ℤ◌, ◌≤ℤ◌, neg_ℤ, Bool, true, false, cond, not, int_lt, nat_lt, Option, Some, None, List, [], ◌∷◌, length, All, get_or, slice_index_or, arith, refl, ap, sym, ◌∙◌, subst, inl, inr}
-use Rattle.std.proofs.lemmas.Int.{ints, by_lt_z}
-use Rattle.std.proofs.lemmas.Bool.{cases_eq, cases_lt, eq-eqb, ne_eqb, eqb-true, and_parts, ltb-true}
+use Rattle.std.proofs.Common.{◌≡◌, ◌≢◌, ◌<◌, ◌≤◌, ◌+◌, ◌==◌, ℕ, ℤ, pos, negsuc, ◌+ℤ◌, ◌*ℤ◌, ◌<ℤ◌, ◌≤ℤ◌, neg_ℤ, Bool, true, false, cond, int_lt, nat_lt, Option, Some, None, List, [], ◌∷◌, length, All, get_or, arith, refl, ap, sym, ◌∙◌, subst, inl, inr}
+use Rattle.std.proofs.lemmas.Int.{ints}
+use Rattle.std.proofs.lemmas.Bool.{cases_eq, and_parts, ltb-true}
 use Rattle.std.proofs.lemmas.List.{get_or_default}
 use Rattle.std.proofs.lemmas.List.Elements.{All-append, All-cons}
 use lib.IntN.{*ℤ_comm}
 use Rattle.int_linear.specs.Sums.{inner}
 use Rattle.int_linear.specs.Terms.{dot, coefficients, scaled, AllBelow}
-use Rattle.int_linear.proofs.Ring.{products, mul_zero, zero_mul, one_mul, mul_neg, neg_mul, mul_pos, mul_nonneg}
+use Rattle.int_linear.proofs.Ring.{mul_zero, one_mul, mul_neg, neg_mul, mul_pos, mul_nonneg}
 use Rattle.int_linear.proofs.Signs.{nonneg_cancel, negative_cancel, mul_nonpos}
 use Rattle.int_linear.proofs.Inner.{inner_same, inner_same_at}
 use Rattle.int_linear.proofs.Dots.{dot-append, dot-scaled, dot_is_inner}
@@ -17,21 +17,18 @@ use Rattle.simplex_rows.proofs.Directions.{basic_or_not}
 use Rattle.simplex_rows.proofs.Dropped.{inner_without, without_zero}
 use Rattle.simplex_rows.proofs.Unique.{direction_solves}
 use Rattle.lp_rows.specs.Holding.{ids_below}
-use Rattle.lp_frame.specs.declared.force.AtMost.{AtMost}
-use Rattle.lp_frame.specs.Force.{HoldsAt, is_row, are_terms, is_narrow}
-use Rattle.lp_frame.specs.Standard.{Standard, is_standard, IsStandardPoint}
+use Rattle.lp_frame.specs.Force.{HoldsAt}
+use Rattle.lp_frame.specs.Standard.{Standard}
 use Rattle.lp_frame.proofs.Terms.{terms_below}
-use Rattle.exact_simplex.specs.declared.moves.Move.{Move}
-use Rattle.exact_simplex.specs.declared.moves.Move.TheVariants.{Exchange, Optimal, Infeasible, Unbounded}
-use Rattle.exact_simplex.specs.Choice.{first_below, best_below}
+use Rattle.exact_simplex.specs.declared.moves.Move.TheVariants.{Optimal, Infeasible, Unbounded}
 use Rattle.exact_simplex.specs.Table.{Table, IsSound, entry, right_side, basic, artificial, right, scale, width, unit, slack, in_force}
 use Rattle.exact_simplex.specs.Equations.{row_terms, goal_terms, row_at, equation_of, IsTableauOf}
-use Rattle.exact_simplex.specs.Bland.{bland_move, first_move, driven_move, exit_move, entering_move, leaving_move, basic_move, starting_row, driving_row, row_of, is_spent, exit_column, entering_column, leaving_row, goes_before}
+use Rattle.exact_simplex.specs.Bland.{bland_move, first_move, driven_move, exit_move, entering_move, leaving_move, starting_row, driving_row, row_of, is_spent, exit_column, entering_column, leaving_row, goes_before}
 use Rattle.exact_simplex.specs.Laws.{HasNoArtificial, IsFeasible, IsBasicSolution, IsEnteringDirection, IsFormRay, AttainsLevel}
-use Rattle.exact_simplex.proofs.Choices.{IsFirst, first_some, best_none}
+use Rattle.exact_simplex.proofs.Choices.{first_some, best_none}
 use Rattle.exact_simplex.proofs.Comparisons.{lt_from, le_from}
-use Rattle.exact_simplex.proofs.Named.{none_negative, row_of_basic}
-use Rattle.exact_simplex.proofs.FirstTable.{standard_parts, all_at}
+use Rattle.exact_simplex.proofs.Named.{row_of_basic}
+use Rattle.exact_simplex.proofs.FirstTable.{standard_parts}
 use Rattle.exact_simplex.proofs.Certificates.{below_at, row_equation, goal_equation, scale_positive}
 
 -- terms with ids below n stand below what is more

@@ -1,9 +1,9 @@
 -- What the directions of a tableau are for its standard form: its point and its ray.
-use Rattle.std.specs.Prelude.{◌≡◌, ◌≢◌, ◌<◌, ◌+◌, ℕ, ℤ, pos, ◌*ℤ◌, ◌≤ℤ◌, ◌<ℤ◌, neg_ℤ, All}
+use Rattle.std.specs.Prelude.{◌≡◌, ◌<◌, ◌+◌, ℕ, ℤ, pos, ◌*ℤ◌, ◌≤ℤ◌, ◌<ℤ◌, neg_ℤ, All}
 use Rattle.int_linear.specs.Terms.{dot}
 use Rattle.simplex_rows.specs.Tableau.{IsDirection}
 use Rattle.lp_frame.specs.Standard.{Standard, IsStandardPoint}
-use Rattle.exact_simplex.specs.declared.moves.Move.TheVariants.{Optimal, Unbounded}
+use Rattle.exact_simplex.specs.declared.moves.Move.TheVariants.{Unbounded}
 use Rattle.exact_simplex.specs.Table.{Table, IsSound, entry, right_side, basic, artificial, right, scale, width}
 use Rattle.exact_simplex.specs.Bland.{bland_move, row_of}
 use Rattle.exact_simplex.specs.Equations.{IsTableauOf}

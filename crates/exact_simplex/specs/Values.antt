@@ -1,5 +1,5 @@
 -- The basic values of a tableau over one denominator.
-use Rattle.std.specs.Prelude.{◌≡◌, ◌≢◌, ◌<◌, ◌≤◌, ◌+◌, ◌^◌, ◌⊎◌, ℕ, ℤ, pos, ◌*ℤ◌, ◌<ℤ◌, false, List, length, unsigned_abs}
+use Rattle.std.specs.Prelude.{◌≡◌, ◌≢◌, ◌<◌, ◌≤◌, ◌^◌, ◌⊎◌, ℕ, ℤ, pos, ◌*ℤ◌, ◌<ℤ◌, List, length, unsigned_abs}
 use Rattle.std.specs.Int.{◌∣◌}
 use Rattle.fractions.specs.Divisors.{IsLcm}
 use Rattle.fractions.specs.Width.{IsWide}

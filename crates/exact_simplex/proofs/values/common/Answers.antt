@@ -1,7 +1,6 @@
-use Rattle.std.proofs.Common.{◌≡◌, ◌+◌, ◌<◌, ℕ, ℤ, slice_index_or, FitsSigned, to_z, rules, arith, subst}
+use Rattle.std.proofs.Common.{◌≡◌, ◌+◌, ◌<◌, ℕ, ℤ, FitsSigned, to_z, rules, subst}
 use Rattle.std.specs.Int.{w128}
 use Rattle.std.proofs.lemmas.Int.{to_z-of_z}
-use Rattle.int_linear.specs.Sums.{matrix}
 use Rattle.exact_simplex.specs.Table.{Table, right_side}
 use Rattle.exact_simplex.specs.Bland.{table_of}
 use Rattle.exact_simplex.specs.Values.{own, IsCommon, IsWideCommon, IsNextCommon, IsNextWide}

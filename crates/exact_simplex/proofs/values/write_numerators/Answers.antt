@@ -1,10 +1,9 @@
-use Rattle.std.proofs.Common.{◌≡◌, ◌+◌, ◌<◌, ◌≤◌, ◌*ℤ◌, ℕ, ℤ, List, set, slice_index_or, FitsSigned, rules, arith, ap, sym, ◌∙◌, subst}
+use Rattle.std.proofs.Common.{◌≡◌, ◌+◌, ◌<◌, ◌*ℤ◌, ℕ, ℤ, set, slice_index_or, FitsSigned, rules, ap, sym, ◌∙◌, subst}
 use Rattle.std.specs.Int.{w128}
 use Rattle.std.proofs.lemmas.Int.{to_z-of_z}
-use Rattle.int_linear.specs.Sums.{matrix}
-use Rattle.exact_simplex.specs.Table.{Table, IsSound, right_side, basic}
+use Rattle.exact_simplex.specs.Table.{Table, right_side}
 use Rattle.exact_simplex.specs.Bland.{table_of}
-use Rattle.exact_simplex.specs.Values.{own, IsCommon, AreNumerators, IsWideNumerator, DividesOver}
+use Rattle.exact_simplex.specs.Values.{own, IsCommon, AreNumerators, DividesOver}
 use Rattle.exact_simplex.proofs.Commons.{common_divides, numerators_more, numerators_over}
 use Rattle.exact_simplex.proofs.values.write_numerators.Goals as goal
 use Rattle.exact_simplex.proofs.values.write_numerators.Goals.{then-column-columns+in-Some, else-column-columns}
