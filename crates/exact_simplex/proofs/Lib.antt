@@ -10,3 +10,5 @@ pub mod FirstRows
 pub mod FirstTable
 pub mod Certificates
 pub mod Fractions
+pub mod Solutions
+pub mod Commons

@@ -2,7 +2,9 @@ pub mod Bland
 pub mod Choice
 pub mod Equations
 pub mod Exchange
+pub mod Laws
 pub mod Log
 pub mod ReadOut
 pub mod Run
 pub mod Table
+pub mod Values

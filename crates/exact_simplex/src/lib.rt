@@ -14,12 +14,14 @@ mod bland;
 mod choosing;
 mod exchange;
 mod first;
+pub mod laws;
 pub mod log;
 pub mod moves;
 pub mod tableau;
+mod values;
 
 pub use log::{Event, Log};
-pub use moves::{Move, Outcome};
+pub use moves::{Move, Outcome, ReadOut};
 pub use tableau::Tableau;
 
 #[cfg(test)]

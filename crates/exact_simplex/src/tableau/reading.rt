@@ -1,6 +1,6 @@
 //! What is read out of a tableau at which no exchange is due.
 
-ghost use Rattle.std.specs.Prelude.{◌≡◌, ◌≤◌, ◌+◌, ◌⊎◌, ◌++◌, ◌∷◌, [], pos, neg_ℤ, ◌<ℤ◌, length, IfOk, OnOk, if◌then◌else◌};
+ghost use Rattle.std.specs.Prelude.{◌≡◌, ◌≤◌, ◌+◌, ◌⊎◌, ◌++◌, ◌∷◌, [], pos, neg_ℤ, ◌<ℤ◌, length, IfOk, IfErr, OnOk, if◌then◌else◌};
 ghost use Rattle.std.specs.Ordering.{int_eq};
 ghost use Rattle.fractions.specs.Fraction.{IsReduced};
 ghost use Rattle.fractions.specs.Width.{IsNarrow};
@@ -9,13 +9,16 @@ ghost use Rattle.lp_frame.specs.Standard.{Standard};
 ghost use Rattle.exact_simplex.specs.Bland.{bland_move};
 ghost use Rattle.exact_simplex.specs.Equations.{IsTableauOf};
 ghost use Rattle.exact_simplex.specs.ReadOut.{entries_of, multipliers_of, BoundsForm, RefutesForm};
+ghost use Rattle.exact_simplex.specs.Values.{IsPointOf, IsPointRefusal};
 ghost use Rattle.exact_simplex.specs.Table.{entry, right_side, scale as scale_column};
 
 use crate::choosing::{find_row, number};
-use crate::moves::Move;
+use crate::moves::{Move, ReadOut};
 use crate::tableau::Tableau;
+use crate::values::point_of;
 use fractions::{Frac, Memory};
 use lp_frame::Mults;
+use lp_rows::Point;
 use simplex_rows::Row;
 use std::alloc::Global;
 
@@ -37,6 +40,15 @@ impl Tableau {
         let right = number(&self.rows, self.height, self.columns + self.height + 1);
         let scale = number(&self.rows, self.height, self.columns + self.height + 2);
         fraction(right, scale)
+    }
+
+    /// The point of the basis: the structural columns over the least common denominator of the values of all rows,
+    /// slacks among them. `Over` names the row at which the first number that leaves 128 bits is formed.
+    pub fn point(&self, alloc: Global) -> Result<Point, ReadOut>
+        ensures point { IfOk result (IsPointOf self.now) }
+        ensures refused { IfErr result (IsPointRefusal self.now) }
+    {
+        point_of(alloc, &self.rows, &self.basis, self.columns, self.height)
     }
 
     /// The multipliers of the rows, without zeros, rows ascending. At an optimal tableau they bound the goal by its
