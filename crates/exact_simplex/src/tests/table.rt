@@ -14,6 +14,9 @@ use std::test::Fail;
 // The numbers that a form has in pairs: a column and a coefficient, or a row and a multiplier.
 type Pairs<'a> = &'a [(u32, i128)];
 
+// A common denominator, and the numerators of the columns.
+type Values<'a> = (i128, &'a [i128]);
+
 // A standard form, the moves from its slack basis, and how they end.
 #[derive(Clone, Copy)]
 struct Case<'a> {
@@ -31,12 +34,14 @@ enum End<'a> {
         level: (i128, i128),
         scale: i128,
         multipliers: Pairs<'a>,
+        point: Values<'a>,
     },
     Infeasible {
         multipliers: Pairs<'a>,
     },
     Unbounded {
         enter: u32,
+        point: Values<'a>,
     },
     Wide {
         row: u32,
@@ -52,7 +57,22 @@ fn force_of(alloc: Global, case: &Case<'_>) -> Result<Force, Memory> {
     Ok(force)
 }
 
-// Runs the form with exactly as many steps as it has moves, or one more where the move that is due is wide.
+// The point that is read out.
+fn has_point(
+    rt: &(impl Abort + AllocGlobal),
+    tableau: &Tableau,
+    (over, nums): Values<'_>,
+    name: &str,
+) -> Result<(), Fail> {
+    let Ok(point) = tableau.point(rt.alloc()) else {
+        return Err(Fail::from(name));
+    };
+    assert_eq!(rt; point.over(), over, "denominator of {}", name);
+    assert_eq!(rt; point.nums(), nums, "numerators of {}", name);
+    Ok(())
+}
+
+// Runs the form, and compares its moves, its end and what is read out there.
 fn holds(rt: &(impl Abort + AllocGlobal), case: &Case<'_>) -> Result<(), Fail> {
     let alloc = rt.alloc();
     let force = force_of(alloc, case)?;
@@ -68,6 +88,7 @@ fn holds(rt: &(impl Abort + AllocGlobal), case: &Case<'_>) -> Result<(), Fail> {
                 level,
                 scale,
                 multipliers,
+                point,
             } = case.end
             else {
                 return Err(Fail::from(case.name));
@@ -80,6 +101,7 @@ fn holds(rt: &(impl Abort + AllocGlobal), case: &Case<'_>) -> Result<(), Fail> {
                 "multipliers of {}",
                 case.name
             );
+            has_point(rt, &tableau, point, case.name)?;
         }
         Outcome::Infeasible => {
             let End::Infeasible { multipliers } = case.end else {
@@ -93,10 +115,11 @@ fn holds(rt: &(impl Abort + AllocGlobal), case: &Case<'_>) -> Result<(), Fail> {
             );
         }
         Outcome::Unbounded { enter: found } => {
-            let End::Unbounded { enter } = case.end else {
+            let End::Unbounded { enter, point } = case.end else {
                 return Err(Fail::from(case.name));
             };
             assert_eq!(rt; found, enter, "entering column of {}", case.name);
+            has_point(rt, &tableau, point, case.name)?;
         }
         Outcome::Wide(place) => {
             let End::Wide { row, column } = case.end else {
@@ -144,6 +167,7 @@ fn forms(rt: HostRuntime) -> Result<(), Fail> {
                 level: (0, 1),
                 scale: 1,
                 multipliers: &[],
+                point: (1, &[0, 0]),
             },
         },
         Case {
@@ -156,6 +180,18 @@ fn forms(rt: HostRuntime) -> Result<(), Fail> {
                 level: (0, 1),
                 scale: 1,
                 multipliers: &[],
+                point: (1, &[]),
+            },
+        },
+        Case {
+            name: "no rows, and a goal to improve",
+            columns: 1,
+            goal: &[(0, -1)],
+            rows: &[],
+            moves: &[],
+            end: End::Unbounded {
+                enter: 0,
+                point: (1, &[0]),
             },
         },
         Case {
@@ -168,6 +204,7 @@ fn forms(rt: HostRuntime) -> Result<(), Fail> {
                 level: (0, 1),
                 scale: 1,
                 multipliers: &[],
+                point: (1, &[]),
             },
         },
         Case {
@@ -190,6 +227,30 @@ fn forms(rt: HostRuntime) -> Result<(), Fail> {
                 level: (0, 1),
                 scale: 1,
                 multipliers: &[],
+                point: (1, &[0]),
+            },
+        },
+        Case {
+            name: "one column",
+            columns: 1,
+            goal: &[(0, -1)],
+            rows: &[(&[(0, 1)], 5), (&[(0, 2)], 7)],
+            moves: &[(0, 2)],
+            end: End::Optimal {
+                level: (-7, 2),
+                scale: 2,
+                multipliers: &[(1, 1)],
+                point: (2, &[7]),
+            },
+        },
+        Case {
+            name: "two rows that refute",
+            columns: 1,
+            goal: &[],
+            rows: &[(&[(0, 1)], 3), (&[(0, -1)], -4)],
+            moves: &[(3, 2), (0, 1)],
+            end: End::Infeasible {
+                multipliers: &[(0, 1), (1, 1)],
             },
         },
         Case {
@@ -206,6 +267,7 @@ fn forms(rt: HostRuntime) -> Result<(), Fail> {
                 level: (-34, 5),
                 scale: 5,
                 multipliers: &[(0, 7), (2, 1)],
+                point: (5, &[8, 6]),
             },
         },
         Case {
@@ -222,6 +284,7 @@ fn forms(rt: HostRuntime) -> Result<(), Fail> {
                 level: (0, 1),
                 scale: 1,
                 multipliers: &[(0, 3), (1, 2)],
+                point: (1, &[0, 0]),
             },
         },
         Case {
@@ -234,6 +297,7 @@ fn forms(rt: HostRuntime) -> Result<(), Fail> {
                 level: (2, 1),
                 scale: 1,
                 multipliers: &[(0, 1)],
+                point: (1, &[1, 1]),
             },
         },
         Case {
@@ -250,6 +314,7 @@ fn forms(rt: HostRuntime) -> Result<(), Fail> {
                 level: (31, 3),
                 scale: 3,
                 multipliers: &[(1, 8), (2, 1)],
+                point: (3, &[5, 7]),
             },
         },
         Case {
@@ -266,6 +331,7 @@ fn forms(rt: HostRuntime) -> Result<(), Fail> {
                 level: (-45, 1),
                 scale: 1,
                 multipliers: &[(1, 5)],
+                point: (1, &[9, 0]),
             },
         },
         Case {
@@ -284,7 +350,10 @@ fn forms(rt: HostRuntime) -> Result<(), Fail> {
             goal: &[(0, -1), (1, -1)],
             rows: &[(&[(0, 1), (1, -2)], 2), (&[(0, -3), (1, 1)], 3)],
             moves: &[(0, 2)],
-            end: End::Unbounded { enter: 1 },
+            end: End::Unbounded {
+                enter: 1,
+                point: (1, &[2, 0]),
+            },
         },
         Case {
             name: "Beale's form",
@@ -300,6 +369,7 @@ fn forms(rt: HostRuntime) -> Result<(), Fail> {
                 level: (-5, 1),
                 scale: 1,
                 multipliers: &[(1, 3), (2, 5)],
+                point: (25, &[1, 0, 25, 0]),
             },
         },
         Case {
@@ -316,6 +386,7 @@ fn forms(rt: HostRuntime) -> Result<(), Fail> {
                 level: (-1, 1),
                 scale: 1,
                 multipliers: &[(1, 9), (2, 1)],
+                point: (1, &[1, 0, 1, 0]),
             },
         },
         Case {
@@ -331,6 +402,7 @@ fn forms(rt: HostRuntime) -> Result<(), Fail> {
                 level: (-1847063792586, 1847063792585),
                 scale: 5541191377755,
                 multipliers: &[(1, 1)],
+                point: (1847063792585, &[0, 1847063792586]),
             },
         },
         Case {
