@@ -155,9 +155,10 @@ fn holds(rt: &(impl Abort + AllocGlobal), case: &Case<'_>) -> Result<(), Fail> {
 }
 
 #[test]
-fn forms(rt: HostRuntime) -> Result<(), Fail> {
-    let cases = [
-        Case {
+fn no_rows(rt: HostRuntime) -> Result<(), Fail> {
+    holds(
+        &rt,
+        &Case {
             name: "no rows",
             columns: 2,
             goal: &[(1, 3)],
@@ -170,7 +171,14 @@ fn forms(rt: HostRuntime) -> Result<(), Fail> {
                 point: (1, &[0, 0]),
             },
         },
-        Case {
+    )
+}
+
+#[test]
+fn no_rows_and_no_columns(rt: HostRuntime) -> Result<(), Fail> {
+    holds(
+        &rt,
+        &Case {
             name: "no rows and no columns",
             columns: 0,
             goal: &[],
@@ -183,7 +191,14 @@ fn forms(rt: HostRuntime) -> Result<(), Fail> {
                 point: (1, &[]),
             },
         },
-        Case {
+    )
+}
+
+#[test]
+fn no_rows_and_a_goal_to_improve(rt: HostRuntime) -> Result<(), Fail> {
+    holds(
+        &rt,
+        &Case {
             name: "no rows, and a goal to improve",
             columns: 1,
             goal: &[(0, -1)],
@@ -194,7 +209,14 @@ fn forms(rt: HostRuntime) -> Result<(), Fail> {
                 point: (1, &[0]),
             },
         },
-        Case {
+    )
+}
+
+#[test]
+fn no_columns(rt: HostRuntime) -> Result<(), Fail> {
+    holds(
+        &rt,
+        &Case {
             name: "no columns",
             columns: 0,
             goal: &[],
@@ -207,7 +229,14 @@ fn forms(rt: HostRuntime) -> Result<(), Fail> {
                 point: (1, &[]),
             },
         },
-        Case {
+    )
+}
+
+#[test]
+fn no_columns_and_a_negative_bound(rt: HostRuntime) -> Result<(), Fail> {
+    holds(
+        &rt,
+        &Case {
             name: "no columns and a negative bound",
             columns: 0,
             goal: &[],
@@ -217,7 +246,14 @@ fn forms(rt: HostRuntime) -> Result<(), Fail> {
                 multipliers: &[(1, 1)],
             },
         },
-        Case {
+    )
+}
+
+#[test]
+fn nothing_to_improve(rt: HostRuntime) -> Result<(), Fail> {
+    holds(
+        &rt,
+        &Case {
             name: "nothing to improve",
             columns: 1,
             goal: &[(0, 1)],
@@ -230,7 +266,14 @@ fn forms(rt: HostRuntime) -> Result<(), Fail> {
                 point: (1, &[0]),
             },
         },
-        Case {
+    )
+}
+
+#[test]
+fn one_column(rt: HostRuntime) -> Result<(), Fail> {
+    holds(
+        &rt,
+        &Case {
             name: "one column",
             columns: 1,
             goal: &[(0, -1)],
@@ -243,7 +286,14 @@ fn forms(rt: HostRuntime) -> Result<(), Fail> {
                 point: (2, &[7]),
             },
         },
-        Case {
+    )
+}
+
+#[test]
+fn two_rows_that_refute(rt: HostRuntime) -> Result<(), Fail> {
+    holds(
+        &rt,
+        &Case {
             name: "two rows that refute",
             columns: 1,
             goal: &[],
@@ -253,7 +303,14 @@ fn forms(rt: HostRuntime) -> Result<(), Fail> {
                 multipliers: &[(0, 1), (1, 1)],
             },
         },
-        Case {
+    )
+}
+
+#[test]
+fn equal_rows(rt: HostRuntime) -> Result<(), Fail> {
+    holds(
+        &rt,
+        &Case {
             name: "equal rows",
             columns: 2,
             goal: &[(0, -2), (1, -3)],
@@ -270,7 +327,14 @@ fn forms(rt: HostRuntime) -> Result<(), Fail> {
                 point: (5, &[8, 6]),
             },
         },
-        Case {
+    )
+}
+
+#[test]
+fn bounds_of_0(rt: HostRuntime) -> Result<(), Fail> {
+    holds(
+        &rt,
+        &Case {
             name: "bounds of 0",
             columns: 2,
             goal: &[(0, -1), (1, -1)],
@@ -287,7 +351,14 @@ fn forms(rt: HostRuntime) -> Result<(), Fail> {
                 point: (1, &[0, 0]),
             },
         },
-        Case {
+    )
+}
+
+#[test]
+fn an_artificial_that_leaves_at_0(rt: HostRuntime) -> Result<(), Fail> {
+    holds(
+        &rt,
+        &Case {
             name: "an artificial that leaves at 0",
             columns: 2,
             goal: &[(0, 1), (1, 1)],
@@ -300,7 +371,14 @@ fn forms(rt: HostRuntime) -> Result<(), Fail> {
                 point: (1, &[1, 1]),
             },
         },
-        Case {
+    )
+}
+
+#[test]
+fn an_equation(rt: HostRuntime) -> Result<(), Fail> {
+    holds(
+        &rt,
+        &Case {
             name: "an equation",
             columns: 2,
             goal: &[(0, 2), (1, 3)],
@@ -317,7 +395,14 @@ fn forms(rt: HostRuntime) -> Result<(), Fail> {
                 point: (3, &[5, 7]),
             },
         },
-        Case {
+    )
+}
+
+#[test]
+fn two_negative_bounds(rt: HostRuntime) -> Result<(), Fail> {
+    holds(
+        &rt,
+        &Case {
             name: "two negative bounds",
             columns: 2,
             goal: &[(0, -5), (1, 4)],
@@ -334,7 +419,14 @@ fn forms(rt: HostRuntime) -> Result<(), Fail> {
                 point: (1, &[9, 0]),
             },
         },
-        Case {
+    )
+}
+
+#[test]
+fn three_rows_that_refute(rt: HostRuntime) -> Result<(), Fail> {
+    holds(
+        &rt,
+        &Case {
             name: "three rows that refute",
             columns: 2,
             goal: &[(0, 1)],
@@ -344,7 +436,14 @@ fn forms(rt: HostRuntime) -> Result<(), Fail> {
                 multipliers: &[(0, 2), (1, 2), (2, 1)],
             },
         },
-        Case {
+    )
+}
+
+#[test]
+fn unbounded_after_a_move(rt: HostRuntime) -> Result<(), Fail> {
+    holds(
+        &rt,
+        &Case {
             name: "unbounded after a move",
             columns: 2,
             goal: &[(0, -1), (1, -1)],
@@ -355,7 +454,14 @@ fn forms(rt: HostRuntime) -> Result<(), Fail> {
                 point: (1, &[2, 0]),
             },
         },
-        Case {
+    )
+}
+
+#[test]
+fn beales_form(rt: HostRuntime) -> Result<(), Fail> {
+    holds(
+        &rt,
+        &Case {
             name: "Beale's form",
             columns: 4,
             goal: &[(0, -75), (1, 15000), (2, -2), (3, 600)],
@@ -372,7 +478,14 @@ fn forms(rt: HostRuntime) -> Result<(), Fail> {
                 point: (25, &[1, 0, 25, 0]),
             },
         },
-        Case {
+    )
+}
+
+#[test]
+fn chvatals_form(rt: HostRuntime) -> Result<(), Fail> {
+    holds(
+        &rt,
+        &Case {
             name: "Chvatal's form",
             columns: 4,
             goal: &[(0, -10), (1, 57), (2, 9), (3, 24)],
@@ -389,7 +502,14 @@ fn forms(rt: HostRuntime) -> Result<(), Fail> {
                 point: (1, &[1, 0, 1, 0]),
             },
         },
-        Case {
+    )
+}
+
+#[test]
+fn the_last_of_these_that_is_narrow(rt: HostRuntime) -> Result<(), Fail> {
+    holds(
+        &rt,
+        &Case {
             name: "the last of these that is narrow",
             columns: 2,
             goal: &[(0, -1), (1, -1)],
@@ -405,7 +525,14 @@ fn forms(rt: HostRuntime) -> Result<(), Fail> {
                 point: (1847063792585, &[0, 1847063792586]),
             },
         },
-        Case {
+    )
+}
+
+#[test]
+fn the_first_of_these_that_is_wide(rt: HostRuntime) -> Result<(), Fail> {
+    holds(
+        &rt,
+        &Case {
             name: "the first of these that is wide",
             columns: 2,
             goal: &[(0, -1), (1, -1)],
@@ -416,7 +543,14 @@ fn forms(rt: HostRuntime) -> Result<(), Fail> {
             moves: &[(0, 2), (1, 3)],
             end: End::Wide { row: 1, column: 5 },
         },
-        Case {
+    )
+}
+
+#[test]
+fn wide_in_the_first_row(rt: HostRuntime) -> Result<(), Fail> {
+    holds(
+        &rt,
+        &Case {
             name: "wide in the first row",
             columns: 2,
             goal: &[(0, -1), (1, -1)],
@@ -427,7 +561,14 @@ fn forms(rt: HostRuntime) -> Result<(), Fail> {
             moves: &[(0, 2)],
             end: End::Wide { row: 0, column: 0 },
         },
-        Case {
+    )
+}
+
+#[test]
+fn wide_in_the_goal_row(rt: HostRuntime) -> Result<(), Fail> {
+    holds(
+        &rt,
+        &Case {
             name: "wide in the goal row",
             columns: 2,
             goal: &[(0, -1), (1, -1)],
@@ -438,7 +579,14 @@ fn forms(rt: HostRuntime) -> Result<(), Fail> {
             moves: &[(0, 2)],
             end: End::Wide { row: 2, column: 1 },
         },
-        Case {
+    )
+}
+
+#[test]
+fn wide_at_large_numbers(rt: HostRuntime) -> Result<(), Fail> {
+    holds(
+        &rt,
+        &Case {
             name: "wide at large numbers",
             columns: 2,
             goal: &[(0, -1), (1, -1)],
@@ -452,9 +600,5 @@ fn forms(rt: HostRuntime) -> Result<(), Fail> {
             moves: &[(0, 2)],
             end: End::Wide { row: 0, column: 0 },
         },
-    ];
-    for case in &cases {
-        holds(&rt, case)?;
-    }
-    Ok(())
+    )
 }
