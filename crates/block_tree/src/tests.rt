@@ -178,118 +178,121 @@ fn both_may_be_chosen_of_an_or(rt: HostRuntime) -> Result<(), Fail> {
     builder.close(alloc)?;
     builder.close(alloc)?;
     let model = finished(alloc, builder)?;
-    assert_eq!(rt;
-        verdict(alloc, &model, 1, &[5], &[true, true])?,
-        Ok(Verdict::Holds)
-    );
-    assert_eq!(rt;
-        verdict(alloc, &model, 1, &[2], &[true, true])?,
-        Ok(Verdict::FailsAt(8))
-    );
-    assert_eq!(rt;
-        verdict(alloc, &model, 1, &[5], &[false, false])?,
-        Ok(Verdict::FailsAt(3))
-    );
+    let table = [
+        (5, [true, true], Ok(Verdict::Holds)),
+        (2, [true, true], Ok(Verdict::FailsAt(8))),
+        (5, [false, false], Ok(Verdict::FailsAt(3))),
+    ];
+    for (number, truths, want) in table {
+        assert_eq!(rt; verdict(alloc, &model, 1, &[number], &truths)?, want);
+    }
     Ok(())
 }
 
 #[test]
-fn each_call_refuses_by_its_first_cause(rt: HostRuntime) -> Result<(), Fail> {
+fn a_name_is_refused_before_a_number(rt: HostRuntime) -> Result<(), Fail> {
     let alloc = rt.alloc();
+    let mut builder = ModelBuilder::new(alloc);
+    builder.var(alloc, "x", Kind::Real, between(0, 1)?, 2)?;
+    let table = [
+        ("x", 1, 0, BuildError::NameTwice),
+        ("y", 1, 0, BuildError::Number),
+        ("y", 0, 1_000_000_000_000_001, BuildError::Number),
+        ("inf", 0, 1, BuildError::Limit),
+    ];
+    for (name, low, high, want) in table {
+        let bound = between(low, high)?;
+        assert_eq!(rt; builder.var(alloc, name, Kind::Real, bound, 3), Err(want));
+    }
+    assert_eq!(rt; builder.boolean(alloc, "x", 3), Err(BuildError::NameTwice));
+    Ok(())
+}
+
+#[test]
+fn terms_are_refused_by_their_names(rt: HostRuntime) -> Result<(), Fail> {
+    let alloc = rt.alloc();
+    let mut builder = ModelBuilder::new(alloc);
+    builder.var(alloc, "x", Kind::Real, free(), 2)?;
+    let table = [
+        (0, 0, BuildError::NameTwice),
+        (7, 7, BuildError::NameTwice),
+        (0, 1, BuildError::NameUnknown),
+    ];
+    for (first, second, want) in table {
+        let terms = [(first, frac(1, 1)?), (second, frac(1, 1)?)];
+        let refused = builder.row(alloc, &terms, Rel::AtMost, frac(1, 1)?, 3);
+        assert_eq!(rt; refused, Err(want));
+    }
+    Ok(())
+}
+
+#[test]
+fn rows_are_refused_by_their_numbers(rt: HostRuntime) -> Result<(), Fail> {
+    let alloc = rt.alloc();
+    let mut builder = ModelBuilder::new(alloc);
+    builder.var(alloc, "x", Kind::Real, free(), 2)?;
     let limit = 1_000_000_000_000_000;
-    let one = frac(1, 1)?;
+    let table = [
+        (0, 1, 1, 1, Err(BuildError::Number)),
+        (limit + 1, 1, 1, 1, Err(BuildError::Number)),
+        (3, limit, 1, limit - 1, Err(BuildError::Number)),
+        (1, limit, 1, limit - 1, Ok(())),
+        (limit, 1, 1, 2, Err(BuildError::Number)),
+        (limit, 1, 1, 1, Ok(())),
+        (1, limit, 0, 1, Ok(())),
+    ];
+    for (num, den, right, over, want) in table {
+        let terms = [(0, frac(num, den)?)];
+        let answer = builder.row(alloc, &terms, Rel::AtMost, frac(right, over)?, 3);
+        assert_eq!(rt; answer, want);
+    }
+    Ok(())
+}
+
+#[test]
+fn what_has_no_place_is_refused(rt: HostRuntime) -> Result<(), Fail> {
+    let alloc = rt.alloc();
     let mut builder = ModelBuilder::new(alloc);
     assert_eq!(rt; builder.close(alloc), Err(BuildError::Place));
     assert_eq!(rt;
         builder.open_disjunct(alloc, "a", 1),
         Err(BuildError::Place)
     );
-    builder.var(alloc, "x", Kind::Real, between(0, 1)?, 2)?;
-    let again = builder.var(alloc, "x", Kind::Real, between(1, 0)?, 2);
-    assert_eq!(rt; again, Err(BuildError::NameTwice));
+    builder.open_disjunction(alloc, Mode::Xor, 2)?;
     assert_eq!(rt;
-        builder.var(alloc, "y", Kind::Real, between(1, 0)?, 2),
-        Err(BuildError::Number)
-    );
-    let past = between(0, limit + 1)?;
-    assert_eq!(rt;
-        builder.var(alloc, "y", Kind::Real, past, 2),
-        Err(BuildError::Number)
-    );
-    assert_eq!(rt;
-        builder.var(alloc, "inf", Kind::Real, free(), 2),
-        Err(BuildError::Limit)
-    );
-    assert_eq!(rt; builder.boolean(alloc, "x", 3), Err(BuildError::NameTwice));
-    assert_eq!(rt; builder.boolean(alloc, "p", 3), Ok(0));
-    let table = [
-        ([(0, one), (0, one)], one, BuildError::NameTwice),
-        ([(7, one), (7, one)], one, BuildError::NameTwice),
-        ([(0, one), (1, one)], one, BuildError::NameUnknown),
-    ];
-    for (terms, right, want) in table {
-        assert_eq!(rt;
-            builder.row(alloc, &terms, Rel::AtMost, right, 4),
-            Err(want)
-        );
-    }
-    let table = [
-        (frac(0, 1)?, one, Err(BuildError::Number)),
-        (frac(limit + 1, 1)?, one, Err(BuildError::Number)),
-        (
-            frac(3, limit)?,
-            frac(1, limit - 1)?,
-            Err(BuildError::Number),
-        ),
-        (frac(1, limit)?, frac(1, limit - 1)?, Ok(())),
-        (frac(limit, 1)?, frac(1, 2)?, Err(BuildError::Number)),
-        (frac(limit, 1)?, one, Ok(())),
-        (frac(1, limit)?, frac(0, 1)?, Ok(())),
-    ];
-    for (coefficient, right, want) in table {
-        assert_eq!(rt;
-            builder.row(alloc, &[(0, coefficient)], Rel::AtMost, right, 4),
-            want
-        );
-    }
-    assert_eq!(rt; builder.goal(alloc, Sense::Min, &[], one, 5), Ok(()));
-    assert_eq!(rt;
-        builder.goal(alloc, Sense::Min, &[], one, 5),
-        Err(BuildError::Place)
-    );
-    builder.open_disjunction(alloc, Mode::Xor, 6)?;
-    assert_eq!(rt;
-        builder.open_disjunction(alloc, Mode::Xor, 6),
-        Err(BuildError::Place)
-    );
-    assert_eq!(rt;
-        builder.row(alloc, &[], Rel::AtMost, one, 6),
+        builder.row(alloc, &[], Rel::AtMost, frac(1, 1)?, 3),
         Err(BuildError::Place)
     );
     assert_eq!(rt; builder.close(alloc), Err(BuildError::Missing));
-    assert_eq!(rt;
-        builder.open_disjunct(alloc, "p", 7),
-        Err(BuildError::NameTwice)
-    );
-    let (mut builder, error) = match builder.finish(alloc) {
-        Ok(_) => return Err("finished")?,
-        Err(refused) => refused,
-    };
-    assert_eq!(rt; error, BuildError::Unclosed);
-    assert_eq!(rt; builder.open_disjunct(alloc, "a", 7), Ok(1));
-    assert_eq!(rt;
-        builder.var(alloc, "z", Kind::Real, free(), 8),
-        Err(BuildError::Place)
-    );
-    for name in ["b", "c", "d", "e", "f", "g", "h"] {
-        builder.open_disjunction(alloc, Mode::Or, 9)?;
-        builder.open_disjunct(alloc, name, 10)?;
+    Ok(())
+}
+
+#[test]
+fn disjuncts_stand_at_most_eight_deep(rt: HostRuntime) -> Result<(), Fail> {
+    let alloc = rt.alloc();
+    let mut builder = ModelBuilder::new(alloc);
+    for name in ["a", "b", "c", "d", "e", "f", "g", "h"] {
+        builder.open_disjunction(alloc, Mode::Or, 3)?;
+        builder.open_disjunct(alloc, name, 4)?;
     }
-    builder.open_disjunction(alloc, Mode::Or, 11)?;
+    builder.open_disjunction(alloc, Mode::Or, 5)?;
     assert_eq!(rt;
-        builder.open_disjunct(alloc, "i", 12),
+        builder.open_disjunct(alloc, "i", 6),
         Err(BuildError::Nesting)
     );
+    Ok(())
+}
+
+#[test]
+fn a_model_with_an_open_block_is_refused(rt: HostRuntime) -> Result<(), Fail> {
+    let alloc = rt.alloc();
+    let mut builder = ModelBuilder::new(alloc);
+    builder.var(alloc, "x", Kind::Real, free(), 2)?;
+    builder.open_disjunction(alloc, Mode::Xor, 3)?;
+    match builder.finish(alloc) {
+        Ok(_) => assert!(rt; false),
+        Err((_, error)) => assert_eq!(rt; error, BuildError::Unclosed),
+    }
     Ok(())
 }
 

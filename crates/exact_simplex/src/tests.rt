@@ -1,7 +1,5 @@
 //! Standard forms worked by hand and by another program.
 
-mod table;
-
 use crate::log::{Event, Log};
 use crate::moves::Outcome;
 use crate::tableau::Tableau;
