@@ -2,9 +2,10 @@
 
 import dataclasses
 import os
-import random
 
+from drawn_texts import drawn_texts
 from full_model import LIMIT, full_model, point
+from reference import answer
 
 FULL = "a full device"
 GONE = "a pipe that nobody reads"
@@ -83,133 +84,311 @@ def verdicts():
 
 
 def spellings():
-    """Texts that spell a model or a point, and texts that don't."""
+    """Texts that spell a model or a point."""
     x = b"gdp 1\nvar x real 0 10\n"
     long_name = b"n" * 64
     good = [
         ("no newline at the end", MODEL[:-1], at(3)[:-1]),
         ("blanks at will", b" gdp  1 \n  var   x real  0   10\nrow  2  x<=7 \n", at(3)),
         ("no blanks where none are needed", b"gdp 1\nvar x real 0 10\nrow 2x<=7\n", at(3)),
+        ("tabs are blanks", MODEL.replace(b" ", b"\t"), at(3)),
+        ("carriage returns before newlines", MODEL.replace(b"\n", b"\r\n"), at(3)),
+        ("blank lines and comments", b"\n # a plan\n\t\n" + MODEL.replace(b"\n", b"# \xc8\x00 tonnes\n\n") + b"#", at(3)),
         ("signs", b"gdp 1\nvar x real -10 +10\nrow +2 x >= -7\nrow -x<=+7\n", at(3)),
         ("leading zeros", b"gdp 1\nvar x real 00 010\nrow 0002 x <= 000000000000000000007\n", at(3)),
         ("the greatest numbers", x + b"row 1000000000000000 x <= 1000000000000000\n", at(1)),
+        ("fractions and decimals", b"gdp 1\nvar x real -1/2 20/2\nrow 0.5 x <= 003/2\nrow x >= 2.50\n", at(3)),
+        ("a fraction that is met", x + b"row 1/3 x >= 1.0\n", at(3)),
+        ("fifteen places", x + b"row x >= 0.000000000000001\n", at(3)),
+        ("a row's scale past the limit", x + b"row 1/1000003 x >= 1/1000000007\n", at(3)),
         ("words of the format as names", b"gdp 1\nvar row real 0 10\nvar var real 0 10\nrow 2 row + var <= 7\n", point(["row", "var"], [3, 1])),
         ("capitals count", b"gdp 1\nvar x real 0 10\nvar X real 0 10\nrow 2 x <= 7\n", point(["x", "X"], [3, 9])),
         ("digits, dots and underlines in a name", x.replace(b"x", b"_a.1_") + b"row 2 _a.1_ <= 7\n", point(["_a.1_"], [3])),
         ("a name of 64 bytes", x.replace(b"x", long_name), point(["n" * 64], [3])),
+        ("2e3 is 2 times e3", b"gdp 1\nvar e3 real 0 10\nrow 2e3 <= 7\n", point(["e3"], [3])),
+        ("an integer variable", MODEL.replace(b"real", b"int"), at(3)),
+        ("a goal", MODEL + b"max 3/2 x - 0.5\n", at(3)),
+        ("a goal of a number alone", MODEL + b"min - 7\n", at(3)),
+        ("a Boolean that is false", MODEL + b"boolean b\n", at(3)),
         ("500 variables", b"gdp 1\n" + b"".join(b"var v%d real 0 1\n" % j for j in range(500)), point([f"v{j}" for j in range(500)], [1] * 500)),
         ("1,000 rows", x + b"row x <= 7\n" * 1000, at(3)),
+        ("200 Booleans", x + b"".join(b"boolean b%d\n" % j for j in range(200)), at(3)),
     ]
-    bad_models = [
-        ("the empty text", b""),
-        ("a newline alone", b"\n"),
-        ("no variable", b"gdp 1\n"),
-        ("another header", MODEL.replace(b"gdp 1", b"gdp 2")),
-        ("a header with a leading zero", MODEL.replace(b"gdp 1", b"gdp 01")),
-        ("the header run together", MODEL.replace(b"gdp 1", b"gdp1")),
-        ("the header twice", b"gdp 1\n" + MODEL),
-        ("a point in place of a model", at(3)),
-        ("a blank line", MODEL + b"\n"),
-        ("a blank line with blanks", MODEL + b"  \n"),
-        ("a comment", MODEL + b"# done\n"),
-        ("a comment in a line", MODEL.replace(b"<= 7", b"<= 7 # tonnes")),
-        ("a tab", MODEL.replace(b"row ", b"row\t")),
-        ("a carriage return", MODEL.replace(b"\n", b"\r\n")),
-        ("a byte of 127", MODEL.replace(b"x", b"x\x7f")),
-        ("a byte of 200", MODEL.replace(b"x", b"\xc8")),
-        ("a letter past ASCII", MODEL.replace(b"x", "\u00e9".encode())),
-        ("a byte of 0", MODEL.replace(b"<= 7", b"<= 7\0")),
-        ("a fraction", MODEL.replace(b"2 x", b"1/2 x")),
-        ("a decimal", MODEL.replace(b"<= 7", b"<= 7.0")),
-        ("a coefficient past the limit", MODEL.replace(b"2 x", b"1000000000000001 x")),
-        ("a right side past the limit", MODEL.replace(b"<= 7", b"<= 1000000000000001")),
-        ("a bound past the limit", MODEL.replace(b"0 10", b"0 1000000000000001")),
-        ("a number of 400 digits", MODEL.replace(b"<= 7", b"<= " + b"9" * 400)),
-        ("a coefficient of 0", MODEL.replace(b"2 x", b"0 x")),
-        ("crossed bounds", MODEL.replace(b"0 10", b"10 0")),
-        ("bounds turned round", MODEL.replace(b"0 10", b"inf 0")),
-        ("one bound", MODEL.replace(b"0 10", b"10")),
-        ("three bounds", MODEL.replace(b"0 10", b"0 10 20")),
-        ("a variable twice", x + x[6:]),
-        ("a variable twice in a sum", MODEL.replace(b"2 x", b"x + x")),
-        ("a name before its declaration", b"gdp 1\nvar x real 0 10\nrow x + y <= 7\nvar y real 0 1\n"),
-        ("an unknown name", MODEL.replace(b"2 x", b"2 y")),
-        ("a name of 65 bytes", x.replace(b"x", b"n" * 65)),
-        ("a name that begins with a digit", x.replace(b"x", b"1x")),
-        ("inf as a name", x.replace(b"x", b"inf")),
-        ("end as a name", x.replace(b"x", b"end")),
-        ("or as a name", x.replace(b"x", b"or")),
-        ("no relation", MODEL.replace(b"<= 7", b"")),
-        ("two relations", MODEL.replace(b"<= 7", b"<= 7 <= 8")),
-        ("a strict relation", MODEL.replace(b"<=", b"<")),
-        ("a relation parted", MODEL.replace(b"<=", b"< =")),
-        ("no sum", MODEL.replace(b"2 x ", b"")),
-        ("two signs", MODEL.replace(b"2 x", b"- - 2 x")),
-        ("no sign between terms", x + b"var y real 0 1\nrow x y <= 7\n"),
-        ("a sign at the end of a sum", MODEL.replace(b"2 x", b"2 x +")),
-        ("a variable on the right", MODEL.replace(b"<= 7", b"<= x")),
-        ("a constant in a sum", MODEL.replace(b"2 x", b"2 x + 1")),
-        ("an infinite right side", MODEL.replace(b"<= 7", b"<= inf")),
-        ("a capital first word", MODEL.replace(b"row", b"Row")),
-        ("a line of another word", MODEL + b"rows x <= 7\n"),
-        ("an integer variable, of a later stage", MODEL.replace(b"real", b"int")),
-        ("a Boolean, of a later stage", MODEL + b"boolean b\n"),
-        ("a goal, of a later stage", MODEL + b"max x\n"),
-        ("a disjunction, of a later stage", MODEL + b"disjunction xor\ndisjunct a\nend\nend\n"),
-        ("logic, of a later stage", MODEL + b"logic x\n"),
-        ("an end at the root", MODEL + b"end\n"),
-        ("501 variables", b"gdp 1\n" + b"".join(b"var v%d real 0 1\n" % j for j in range(501))),
-        ("1,001 rows", x + b"row x <= 7\n" * 1001),
-    ]
+    b = b"gdp 1\nvar x real 0 10\nboolean b\n"
     good_points = [
-        ("blanks at will", b" gdp-point  1\n over 1 \nval   x 3  \n end\n"),
-        ("tabs are blanks", b"gdp-point\t1\nover\t1\nval\tx\t3\t\nend\n"),
-        ("carriage returns before newlines", at(3).replace(b"\n", b"\r\n")),
-        ("leading zeros", at(3).replace(b"3", b"0003")),
-        ("minus nought", at(3).replace(b"3", b"-0")),
+        ("blanks at will", MODEL, b" gdp-point  1\n over 1 \nval   x 3  \n end\n"),
+        ("tabs are blanks", MODEL, b"gdp-point\t1\nover\t1\nval\tx\t3\t\nend\n"),
+        ("carriage returns before newlines", MODEL, at(3).replace(b"\n", b"\r\n")),
+        ("blank lines and comments, also at the end", MODEL, b"#\n\n" + at(3).replace(b"\n", b" # \xff\n\n") + b"\n# done"),
+        ("leading zeros", MODEL, at(3).replace(b"3", b"0003")),
+        ("minus nought", MODEL, at(3).replace(b"3", b"-0")),
+        ("over 2", MODEL, b"gdp-point 1\nover 2\nval x 7\nend\n"),
+        ("over with a leading zero", MODEL, b"gdp-point 1\nover 01\nval x 3\nend\n"),
+        ("over the greatest number", b"gdp 1\nvar x real 0 1\n", b"gdp-point 1\nover %d\nval x 1\nend\n" % GREATEST),
+        ("a Boolean before the values", b, b"gdp-point 1\nover 1\non b\nval x 3\nend\n"),
+        ("a Boolean after the values", b, b"gdp-point 1\nover 1\nval x 3\non b\nend\n"),
+        ("values out of order", x + b"var y real 0 1\n", b"gdp-point 1\nover 1\nval y 1\nval x 3\nend\n"),
     ]
-    bad_points = [
-        ("the empty point", b""),
-        ("another header", b"gdp-point 2\nover 1\nval x 3\nend\n"),
-        ("a model in place of a point", MODEL),
-        ("no over", b"gdp-point 1\nval x 3\nend\n"),
-        ("over 2, of a later stage", b"gdp-point 1\nover 2\nval x 3\nend\n"),
-        ("over 0", b"gdp-point 1\nover 0\nval x 3\nend\n"),
-        ("over twice", b"gdp-point 1\nover 1\nover 1\nval x 3\nend\n"),
-        ("no value", b"gdp-point 1\nover 1\nend\n"),
-        ("a value twice", b"gdp-point 1\nover 1\nval x 3\nval x 3\nend\n"),
-        ("an unknown name", b"gdp-point 1\nover 1\nval x 3\nval y 3\nend\n"),
-        ("another name", b"gdp-point 1\nover 1\nval y 3\nend\n"),
-        ("a plus", b"gdp-point 1\nover 1\nval x +3\nend\n"),
-        ("a minus apart", b"gdp-point 1\nover 1\nval x - 3\nend\n"),
-        ("a minus alone", b"gdp-point 1\nover 1\nval x -\nend\n"),
-        ("words run together", b"gdp-point 1\nover 1\nval x-3\nend\n"),
-        ("two numbers", b"gdp-point 1\nover 1\nval x 3 3\nend\n"),
-        ("a word after the end", b"gdp-point 1\nover 1\nval x 3\nend end\n"),
-        ("over with a leading zero", b"gdp-point 1\nover 01\nval x 3\nend\n"),
-        ("a blank line", b"gdp-point 1\nover 1\n\nval x 3\nend\n"),
-        ("a blank line at the end", b"gdp-point 1\nover 1\nval x 3\nend\n\n"),
-        ("a comment", b"gdp-point 1\nover 1\nval x 3 # tonnes\nend\n"),
-        ("two carriage returns", b"gdp-point 1\nover 1\nval x 3\r\r\nend\n"),
-        ("a carriage return at the end of the text", b"gdp-point 1\nover 1\nval x 3\nend\r"),
-        ("a fraction", b"gdp-point 1\nover 1\nval x 3/1\nend\n"),
-        ("one past the greatest number", b"gdp-point 1\nover 1\nval x %d\nend\n" % (GREATEST + 1)),
-        ("one past the least number", b"gdp-point 1\nover 1\nval x %d\nend\n" % (LEAST - 1)),
-        ("a Boolean, of a later stage", b"gdp-point 1\nover 1\nval x 3\non b\nend\n"),
-        ("no end", b"gdp-point 1\nover 1\nval x 3\n"),
-        ("a line after the end", b"gdp-point 1\nover 1\nval x 3\nend\nend\n"),
-        ("a byte of 200", b"gdp-point 1\nover 1\nval x 3\nend\xc8\n"),
+    return [tested(f"read: {name}", model, at_point, 0, b"holds\n") for name, model, at_point in good] + [
+        tested(f"read: point: {name}", model, at_point, 0, b"holds\n") for name, model, at_point in good_points
     ]
-    return (
-        [tested(f"read: {name}", model, at_point, 0, b"holds\n") for name, model, at_point in good]
-        + [tested(f"read: point: {name}", MODEL, at_point, 0, b"holds\n") for name, at_point in good_points]
-        + [tested(f"model: {name}", model, at(3), 2, err=b"M: not built\n") for name, model in bad_models]
-        + [tested(f"point: {name}", MODEL, at_point, 2, err=b"P: not built\n") for name, at_point in bad_points]
-        + [
-            tested("point: out of order, of a later stage", x + b"var y real 0 1\n", b"gdp-point 1\nover 1\nval y 1\nval x 3\nend\n", 2, err=b"P: not built\n"),
-            tested("a bad model comes before a bad point", b"", b"", 2, err=b"M: not built\n"),
-        ]
-    )
+
+
+def refusals():
+    """Texts that are refused, each at its first bad line and with its first cause."""
+    x = b"gdp 1\nvar x real 0 10\n"
+    xor = x + b"disjunction xor\ndisjunct a\n"
+    nested = x + b"".join(b"disjunction xor\ndisjunct d%d\n" % j for j in range(9))
+    models = [
+        ("the empty text", b"", 1, "Header"),
+        ("a newline alone", b"\n", 2, "Header"),
+        ("comments alone", b"# a\n# b", 3, "Header"),
+        ("no variable", b"gdp 1\n", 2, "Missing"),
+        ("another header", MODEL.replace(b"gdp 1", b"gdp 2"), 1, "Header"),
+        ("a header with a leading zero", MODEL.replace(b"gdp 1", b"gdp 01"), 1, "Header"),
+        ("the header run together", MODEL.replace(b"gdp 1", b"gdp1"), 1, "Header"),
+        ("a stray byte in the header's line", MODEL.replace(b"gdp 1", b"gdp 1 \x07"), 1, "Header"),
+        ("the header twice", b"gdp 1\n" + MODEL, 2, "Form"),
+        ("a point in place of a model", at(3), 1, "Header"),
+        ("a byte of 127", MODEL.replace(b"x", b"x\x7f"), 2, "Form"),
+        ("a byte of 200", MODEL.replace(b"<= 7", b"<= 7 \xc8"), 3, "Form"),
+        ("a letter past ASCII", MODEL.replace(b"x", "\u00e9".encode()), 2, "Form"),
+        ("a byte of 0", MODEL.replace(b"<= 7", b"<= 7\0"), 3, "Form"),
+        ("two carriage returns", MODEL.replace(b"7\n", b"7\r\r\n"), 3, "Form"),
+        ("a carriage return at the end of the text", MODEL[:-1] + b"\r", 3, "Form"),
+        ("a number run into a point", MODEL.replace(b"2 x", b"1.x"), 3, "Form"),
+        ("a fraction parted", MODEL.replace(b"2 x", b"1 /2 x"), 3, "Form"),
+        ("a decimal in a fraction", MODEL.replace(b"2 x", b"1.5/2 x"), 3, "Form"),
+        ("nought over nought", MODEL.replace(b"2 x", b"0/0 x"), 3, "Number"),
+        ("one over nought", MODEL.replace(b"<= 7", b"<= 1/0"), 3, "Number"),
+        ("sixteen places", MODEL.replace(b"<= 7", b"<= 0.0000000000000001"), 3, "Number"),
+        ("a denominator past the limit", MODEL.replace(b"<= 7", b"<= 2/1000000000000002"), 3, "Number"),
+        ("a coefficient past the limit", MODEL.replace(b"2 x", b"1000000000000001 x"), 3, "Number"),
+        ("a right side past the limit", MODEL.replace(b"<= 7", b"<= 1000000000000001"), 3, "Number"),
+        ("a scaled number past the limit", MODEL.replace(b"2 x", b"1/2 x").replace(b"<= 7", b"<= 500000000000001"), 3, "Number"),
+        ("a bound past the limit", MODEL.replace(b"0 10", b"0 1000000000000001"), 2, "Number"),
+        ("a number of 400 digits", MODEL.replace(b"<= 7", b"<= " + b"9" * 400), 3, "Number"),
+        ("a coefficient of 0", MODEL.replace(b"2 x", b"0 x"), 3, "Number"),
+        ("a coefficient of 0.0", MODEL.replace(b"2 x", b"0.0 x"), 3, "Number"),
+        ("00 in place of the sum 0", MODEL.replace(b"2 x", b"00"), 3, "Form"),
+        ("0.0 in place of the sum 0", MODEL.replace(b"2 x", b"0.0"), 3, "Form"),
+        ("a signed sum 0", MODEL.replace(b"2 x", b"-0"), 3, "Form"),
+        ("crossed bounds", MODEL.replace(b"0 10", b"10 0"), 2, "Number"),
+        ("fractions crossed", MODEL.replace(b"0 10", b"1/2 0.499"), 2, "Number"),
+        ("bounds turned round", MODEL.replace(b"0 10", b"inf 0"), 2, "Form"),
+        ("one bound", MODEL.replace(b"0 10", b"10"), 2, "Form"),
+        ("three bounds", MODEL.replace(b"0 10", b"0 10 20"), 2, "Form"),
+        ("a variable twice", x + x[6:], 3, "NameTwice"),
+        ("a variable twice in a sum", MODEL.replace(b"2 x", b"x + x"), 3, "NameTwice"),
+        ("a Boolean with a variable's name", x + b"boolean x\n", 3, "NameTwice"),
+        ("an indicator with a variable's name", x + b"disjunction or\ndisjunct x\n", 4, "NameTwice"),
+        ("a name before its declaration", b"gdp 1\nvar x real 0 10\nrow x + y <= 7\nvar y real 0 1\n", 3, "NameUnknown"),
+        ("an unknown name", MODEL.replace(b"2 x", b"2 y"), 3, "NameUnknown"),
+        ("an unknown name twice", MODEL.replace(b"2 x", b"y + y"), 3, "NameUnknown"),
+        ("a Boolean in a sum", x + b"boolean b\nrow b + b <= 1\n", 4, "NameUnknown"),
+        ("a name of 65 bytes", x.replace(b"x", b"n" * 65), 2, "Limit"),
+        ("a name of 65 bytes in a sum", MODEL.replace(b"2 x", b"n" * 65), 3, "NameUnknown"),
+        ("a name that begins with a digit", x.replace(b"x", b"1x"), 2, "Form"),
+        ("inf as a name", x.replace(b"x", b"inf"), 2, "Form"),
+        ("end as a name", x.replace(b"x", b"end"), 2, "Form"),
+        ("or as a name", x.replace(b"x", b"or"), 2, "Form"),
+        ("no relation", MODEL.replace(b"<= 7", b""), 3, "Form"),
+        ("two relations", MODEL.replace(b"<= 7", b"<= 7 <= 8"), 3, "Form"),
+        ("a strict relation", MODEL.replace(b"<=", b"<"), 3, "Form"),
+        ("a relation parted", MODEL.replace(b"<=", b"< ="), 3, "Form"),
+        ("no sum", MODEL.replace(b"2 x ", b""), 3, "Form"),
+        ("two signs", MODEL.replace(b"2 x", b"- - 2 x"), 3, "Form"),
+        ("no sign between terms", x + b"var y real 0 1\nrow x y <= 7\n", 4, "Form"),
+        ("a sign at the end of a sum", MODEL.replace(b"2 x", b"2 x +"), 3, "Form"),
+        ("a variable on the right", MODEL.replace(b"<= 7", b"<= x"), 3, "Form"),
+        ("a constant in a row's sum", MODEL.replace(b"2 x", b"2 x + 1"), 3, "Form"),
+        ("an infinite right side", MODEL.replace(b"<= 7", b"<= inf"), 3, "Form"),
+        ("a capital first word", MODEL.replace(b"row", b"Row"), 3, "Form"),
+        ("a line of another word", MODEL + b"rows x <= 7\n", 4, "Form"),
+        ("another kind", MODEL.replace(b"real", b"whole"), 2, "Form"),
+        ("a goal twice", x + b"min x\nmax x\n", 4, "Form"),
+        ("a goal with its constant first", x + b"min 2 + 3 x\n", 3, "Form"),
+        ("a goal with two constants", x + b"min x + 2 + 3\n", 3, "Form"),
+        ("a goal whose scale passes the limit", x + b"min 1/1000003 x + 1/1000000007\n", 3, "Number"),
+        ("a constant past the limit", x + b"min x + 1000000000000001\n", 3, "Number"),
+        ("logic, of a later stage", MODEL + b"logic x\n", 4, "NotBuilt"),
+        ("whatever else is wrong with it", MODEL + b"logic \xc8 not(\n", 4, "NotBuilt"),
+        ("a bad line before logic", x + b"row y <= 1\nlogic x\n", 3, "NameUnknown"),
+        ("logic before a bad line", x + b"logic x\nrow y <= 1\n", 3, "NotBuilt"),
+        ("an end at the root", MODEL + b"end\n", 4, "Form"),
+        ("a word after an end", xor + b"end end\n", 5, "Form"),
+        ("a disjunction of another mode", x + b"disjunction and\n", 3, "Form"),
+        ("a disjunct at the root", x + b"disjunct a\n", 3, "Form"),
+        ("a row in a disjunction", x + b"disjunction xor\nrow x <= 1\n", 4, "Form"),
+        ("a disjunction in a disjunction", x + b"disjunction xor\ndisjunction xor\n", 4, "Form"),
+        ("a disjunct in a disjunct", xor + b"disjunct b\n", 5, "Form"),
+        ("a variable in a disjunct", xor + b"var y real 0 1\n", 5, "Form"),
+        ("a goal in a disjunct", xor + b"min x\n", 5, "Form"),
+        ("a Boolean in a disjunct", xor + b"boolean b\n", 5, "Form"),
+        ("a Boolean after a disjunction", xor + b"end\nend\nboolean b\n", 7, "Form"),
+        ("a disjunction without a disjunct", x + b"disjunction xor\nend\n", 4, "Missing"),
+        ("an open disjunction", x + b"disjunction xor\n", 4, "Unclosed"),
+        ("an open disjunct", xor, 5, "Unclosed"),
+        ("open, and no variable", b"gdp 1\ndisjunction xor\n", 3, "Unclosed"),
+        ("nine nested disjunctions", nested, 20, "Nesting"),
+        ("a name twice before nesting", nested.replace(b"d8", b"x"), 20, "NameTwice"),
+        ("the place before a name twice", xor + b"var x real 0 1\n", 5, "Form"),
+        ("a name twice before a number", x + b"var x real 5 1\n", 3, "NameTwice"),
+        ("a name twice in a sum before an unknown one", x + b"row y + x + x <= 1\n", 3, "NameTwice"),
+        ("an unknown name before a number", x + b"row 0 x + y <= 1\n", 3, "NameUnknown"),
+        ("a number before a limit", x + b"var %s real 5 1\n" % (b"n" * 65), 3, "Number"),
+        ("a form before a name", x + b"row y <= 1 1\n", 3, "Form"),
+        ("501 variables", b"gdp 1\n" + b"".join(b"var v%d real 0 1\n" % j for j in range(501)), 502, "Limit"),
+        ("1,001 rows", x + b"row x <= 7\n" * 1001, 1003, "Limit"),
+        ("201 Booleans", x + b"".join(b"boolean b%d\n" % j for j in range(201)), 203, "Limit"),
+        ("201 indicators", x + b"disjunction or\n" + b"".join(b"disjunct b%d\nend\n" % j for j in range(201)), 404, "Limit"),
+    ]
+    points = [
+        ("the empty point", b"", 1, "Header"),
+        ("another header", b"gdp-point 2\nover 1\nval x 3\nend\n", 1, "Header"),
+        ("a model in place of a point", MODEL, 1, "Header"),
+        ("the header alone", b"gdp-point 1\n", 2, "Missing"),
+        ("no over", b"gdp-point 1\nval x 3\nend\n", 2, "Form"),
+        ("no over, and the end", b"gdp-point 1\nend\n", 2, "Form"),
+        ("over 0", b"gdp-point 1\nover 0\nval x 3\nend\n", 2, "Number"),
+        ("over -1", b"gdp-point 1\nover -1\nval x 3\nend\n", 2, "Form"),
+        ("over past the greatest number", b"gdp-point 1\nover %d\nval x 3\nend\n" % (GREATEST + 1), 2, "Number"),
+        ("over twice", b"gdp-point 1\nover 1\nover 1\nval x 3\nend\n", 3, "Form"),
+        ("no value", b"gdp-point 1\nover 1\nend\n", 3, "Missing"),
+        ("a value twice", b"gdp-point 1\nover 1\nval x 3\nval x 3\nend\n", 4, "NameTwice"),
+        ("a value and an on line for one name", b"gdp-point 1\nover 1\nval x 3\non x\nend\n", 4, "NameTwice"),
+        ("an unknown name", b"gdp-point 1\nover 1\nval x 3\nval y 3\nend\n", 4, "NameUnknown"),
+        ("another name", b"gdp-point 1\nover 1\nval y 3\nend\n", 3, "NameUnknown"),
+        ("a variable that is on", b"gdp-point 1\nover 1\non x\nend\n", 3, "NameUnknown"),
+        ("an unknown name before a number", b"gdp-point 1\nover 1\nval y %d\nend\n" % (GREATEST + 1), 3, "NameUnknown"),
+        ("a name of 65 bytes", b"gdp-point 1\nover 1\nval %s 1\nend\n" % (b"n" * 65), 3, "NameUnknown"),
+        ("a plus", b"gdp-point 1\nover 1\nval x +3\nend\n", 3, "Form"),
+        ("a minus apart", b"gdp-point 1\nover 1\nval x - 3\nend\n", 3, "Form"),
+        ("a minus alone", b"gdp-point 1\nover 1\nval x -\nend\n", 3, "Form"),
+        ("two numbers", b"gdp-point 1\nover 1\nval x 3 3\nend\n", 3, "Form"),
+        ("a word after the end", b"gdp-point 1\nover 1\nval x 3\nend end\n", 4, "Form"),
+        ("a fraction", b"gdp-point 1\nover 1\nval x 3/1\nend\n", 3, "Form"),
+        ("two carriage returns", b"gdp-point 1\nover 1\nval x 3\r\r\nend\n", 3, "Form"),
+        ("a carriage return at the end of the text", b"gdp-point 1\nover 1\nval x 3\nend\r", 4, "Form"),
+        ("one past the greatest number", b"gdp-point 1\nover 1\nval x %d\nend\n" % (GREATEST + 1), 3, "Number"),
+        ("one past the least number", b"gdp-point 1\nover 1\nval x %d\nend\n" % (LEAST - 1), 3, "Number"),
+        ("a Boolean that isn't there", b"gdp-point 1\nover 1\nval x 3\non b\nend\n", 4, "NameUnknown"),
+        ("no end", b"gdp-point 1\nover 1\nval x 3\n", 4, "Missing"),
+        ("a line after the end", b"gdp-point 1\nover 1\nval x 3\nend\nend\n", 5, "Form"),
+        ("a byte of 200", b"gdp-point 1\nover 1\nval x 3\nend\xc8\n", 4, "Form"),
+    ]
+
+    def told(name, line, cause):
+        return b"%s: line %d: %s\n" % (name, line, cause.encode())
+
+    rows = [tested(f"model: {name}", text, at(3), 2, err=told(b"M", line, cause)) for name, text, line, cause in models]
+    rows += [Case(f"format: {name}", ["format", "M"], {"M": text}, 2, err=told(b"M", line, cause)) for name, text, line, cause in models[::7]]
+    rows += [tested(f"point: {name}", MODEL, text, 2, err=told(b"P", line, cause)) for name, text, line, cause in points]
+    return rows + [tested("a bad model comes before a bad point", b"", b"", 2, err=told(b"M", 1, "Header"))]
+
+
+NESTED = b"""gdp 1
+var x real 0 10
+disjunction xor
+disjunct a
+disjunction xor
+disjunct c
+row x <= 7
+end
+disjunct d
+row x >= 8
+end
+end
+end
+disjunct b
+end
+end
+"""
+EITHER = b"gdp 1\nvar x real 0 10\ndisjunction or\ndisjunct a\nrow x <= 7\nend\ndisjunct b\nrow x >= 3\nend\nend\n"
+
+
+def on(names, *values):
+    """The text of a point with these Booleans true."""
+    return at(*values)[:-4] + b"".join(b"on %s\n" % name for name in names) + b"end\n"
+
+
+def choices():
+    """Nested choices: the first test that fails, and its line."""
+    whole = b"gdp 1\nvar n int -5 5\nrow n <= 5\n"
+    rows = [
+        ("an indicator below a false one", NESTED, on([b"c", b"b"], 5), "fails at line 6"),
+        ("the other disjunct alone", NESTED, on([b"b"], 5), "holds"),
+        ("the nested disjunct", NESTED, on([b"a", b"c"], 5), "holds"),
+        ("its row fails", NESTED, on([b"a", b"c"], 8), "fails at line 7"),
+        ("none of a nested xor", NESTED, on([b"a"], 5), "fails at line 5"),
+        ("both of a nested xor", NESTED, on([b"a", b"c", b"d"], 5), "fails at line 5"),
+        ("none of an xor", NESTED, on([], 5), "fails at line 3"),
+        ("both of an xor", NESTED, on([b"a", b"b"], 5), "fails at line 3"),
+        ("both of an or", EITHER, on([b"a", b"b"], 5), "holds"),
+        ("both of an or, and the second fails", EITHER, on([b"a", b"b"], 2), "fails at line 8"),
+        ("one of an or", EITHER, on([b"a"], 2), "holds"),
+        ("none of an or", EITHER, on([], 2), "fails at line 3"),
+        ("a whole number over 2", whole, b"gdp-point 1\nover 2\nval n -4\nend\n", "holds"),
+        ("a half", whole, b"gdp-point 1\nover 2\nval n 3\nend\n", "fails at line 2"),
+        ("a bound before integrality", whole, b"gdp-point 1\nover 2\nval n 11\nend\n", "fails at line 2"),
+        ("a bound of a fraction", b"gdp 1\nvar x real 1/3 2/3\n", b"gdp-point 1\nover 3\nval x 1\nend\n", "holds"),
+        ("a bound of a fraction, missed", b"gdp 1\nvar x real 1/3 2/3\n", b"gdp-point 1\nover 1000000\nval x 333333\nend\n", "fails at line 2"),
+        ("a bound that is wide", b"gdp 1\nvar x real 1/3 inf\n", b"gdp-point 1\nover 1\nval x %d\nend\n" % GREATEST, "wide at line 2"),
+        ("a row's right side that is wide", MODEL, b"gdp-point 1\nover %d\nval x 1\nend\n" % (2**125), "wide at line 2"),
+    ]
+    return [tested(f"choice: {name}", model, at_point, {"h": 0, "f": 1, "w": 3}[out[0]], out.encode() + b"\n") for name, model, at_point, out in rows]
+
+
+FEED = b"""gdp 1
+var f real 0 100 # feed
+var p real 0 80
+var c real 0 500
+disjunction xor
+  disjunct r1
+    row p - 3/5 f = 0
+    row c = 10
+  end
+  disjunct r2
+    row p - 0.8 f = 0
+    row c = 40
+  end
+end
+row p <= 48
+max 5 p - 2 f - c
+"""
+FEED_CANONICAL = b"""gdp 1
+var f real 0 100
+var p real 0 80
+var c real 0 500
+max -2 f + 5 p - 1 c
+row 1 p <= 48
+disjunction xor
+disjunct r1
+row -3 f + 5 p = 0
+row 1 c = 10
+end
+disjunct r2
+row -4 f + 5 p = 0
+row 1 c = 40
+end
+end
+"""
+
+
+def formats():
+    """Canonical texts."""
+    rows = [
+        ("a feed and a process", FEED, FEED_CANONICAL),
+        ("a canonical text stays", FEED_CANONICAL, FEED_CANONICAL),
+        ("a model without a goal", MODEL, b"gdp 1\nvar x real 0 10\nmin 0\nrow 2 x <= 7\n"),
+        ("bounds", b"gdp 1\nvar x real -inf inf\nvar y int -4/6 0.50\n", b"gdp 1\nvar x real -inf inf\nvar y int -2/3 1/2\nmin 0\n"),
+        ("Booleans", b"gdp 1\nvar x real 0 1\nboolean b\ndisjunction or\ndisjunct a\nend\nend\n", b"gdp 1\nvar x real 0 1\nboolean b\nmin 0\ndisjunction or\ndisjunct a\nend\nend\n"),
+        ("a goal with a constant", b"gdp 1\nvar x real 0 1\nmax -1/2 x - 1.25\n", b"gdp 1\nvar x real 0 1\nmax -1/2 x - 5/4\n"),
+        ("a goal of a constant", b"gdp 1\nvar x real 0 1\nmin -6/4\n", b"gdp 1\nvar x real 0 1\nmin -3/2\n"),
+        ("a row without terms", b"gdp 1\nvar x real 0 1\nrow 0 >= -1/2\n", b"gdp 1\nvar x real 0 1\nmin 0\nrow 0 >= -1\n"),
+        ("terms in the order of the variables", b"gdp 1\nvar x real 0 1\nvar y real 0 1\nrow y - x = 1/3\n", b"gdp 1\nvar x real 0 1\nvar y real 0 1\nmin 0\nrow -3 x + 3 y = 1\n"),
+    ]
+    return [Case(f"format: {name}", ["format", "M"], {"M": text}, 0, canonical) for name, text, canonical in rows]
 
 
 def words():
@@ -217,7 +396,8 @@ def words():
     files = {"M": MODEL, "P": at(3)}
     table = [[], ["test"], ["test", "M"], ["test", "M", "P", "P"], ["Test", "M", "P"], ["tes", "M", "P"], ["test ", "M", "P"]]
     table += [["", "M", "P"], ["M", "P"], ["M", "test", "P"], ["--", "test", "M", "P"], ["--help"], ["testing", "M", "P"]]
-    later = ["format M", "compile bigm M", "solve bigm 100 M", "solve simplex 5 M", "check M P", "lp 100 M", "make 0 1", "bench bigm 100 0 1"]
+    table += [["format"], ["format", "M", "P"], ["Format", "M"], ["M", "format"], ["test", "format"]]
+    later = ["compile bigm M", "solve bigm 100 M", "solve simplex 5 M", "check M P", "lp 100 M", "make 0 1", "bench bigm 100 0 1"]
     refused = [Case(f"words: {line}", line, files, 7, err=b"words refused\n") for line in table + [line.split() for line in later]]
     return refused + [Case("words: no text of Unicode", ["test", b"M\xff", "P"], files, 9)]
 
@@ -245,13 +425,16 @@ def reads():
         holds("a name past ASCII that is there", "mod\u00e8le", "\u70b9"),
         holds("names with blanks, in folders", "a plan/of two.gdp", "./points/the first"),
         holds("names like options", "--model", "-"),
-        Case("read: one file for both", ["test", "M", "M"], {"M": MODEL}, 2, err=b"M: not built\n"),
-        Case("read: the empty device", ["test", "/dev/null", "P"], {"P": at(3)}, 2, err=b"/dev/null: not built\n"),
+        fault("no model to format", ["format", "M"], {}, "M"),
+        fault("a folder to format", ["format", "M"], {"M": None}, "M"),
+        Case("read: formatted from standard input", ["format", "/dev/stdin"], {}, 0, MODEL[:22] + b"min 0\n" + MODEL[22:], stdin=[MODEL[:7], MODEL[7:]]),
+        Case("read: one file for both", ["test", "M", "M"], {"M": MODEL}, 2, err=b"M: line 1: Header\n"),
+        Case("read: the empty device", ["test", "/dev/null", "P"], {"P": at(3)}, 2, err=b"/dev/null: line 1: Header\n"),
         Case("read: the device without an end", ["test", "/dev/zero", "P"], {"P": at(3)}, 2, err=b"/dev/zero: too long\n", is_long=True),
         Case("read: the model from standard input", ["test", "/dev/stdin", "P"], {"P": at(3)}, 0, b"holds\n", stdin=[MODEL]),
         Case("read: in pieces", ["test", "/dev/stdin", "P"], {"P": at(4)}, 1, b"fails at line 3\n", stdin=[MODEL[:9], MODEL[9:10], MODEL[10:]]),
         Case("read: the point from standard input", ["test", "M", "/dev/stdin"], {"M": MODEL}, 0, b"holds\n", stdin=[at(3)[:5], at(3)[5:]]),
-        Case("read: standard input without a byte", ["test", "M", "/dev/stdin"], {"M": MODEL}, 2, err=b"/dev/stdin: not built\n", stdin=[]),
+        Case("read: standard input without a byte", ["test", "M", "/dev/stdin"], {"M": MODEL}, 2, err=b"/dev/stdin: line 1: Header\n", stdin=[]),
     ]
 
 
@@ -269,9 +452,17 @@ def sizes():
         row("a long point beside a bad model", b"", long, 2, err=b"P: too long\n"),
         row("both are long", long, long, 2, err=b"M: too long\n"),
         Case("size: a long model and no point", ["test", "M", "P"], {"M": long}, 2, err=b"M: too long\n", is_long=True),
-        row("newlines to the limit", b"\n" * LIMIT, at(3), 2, err=b"M: not built\n"),
+        row("newlines to the limit", b"\n" * LIMIT, at(3), 2, err=b"M: line 8388609: Header\n"),
         row("one newline past it", b"\n" * (LIMIT + 1), at(3), 2, err=b"M: too long\n"),
-        row("one line to the limit", MODEL + b" " * (LIMIT - len(MODEL)), at(3), 2, err=b"M: not built\n"),
+        row("a line of blanks to the limit", MODEL + b" " * (LIMIT - len(MODEL)), at(3), 0, b"holds\n"),
+        row("a comment to the limit", MODEL + b"#" * (LIMIT - len(MODEL)), at(3), 0, b"holds\n"),
+        row("a name to the limit", MODEL + b"n" * (LIMIT - len(MODEL)), at(3), 2, err=b"M: line 4: Form\n"),
+        row("a number to the limit", MODEL[:-2] + b"7" * (LIMIT - len(MODEL) + 1) + b"\n", at(3), 2, err=b"M: line 3: Number\n"),
+        row("a sum to the limit", MODEL[:-6] + b"+x" * ((LIMIT - len(MODEL)) // 2) + MODEL[-6:], at(3), 2, err=b"M: line 3: NameTwice\n"),
+        row("parentheses to the limit", MODEL + b"(" * (LIMIT - len(MODEL)), at(3), 2, err=b"M: line 4: Form\n"),
+        row("disjunctions to the limit", MODEL + b"disjunction or\n" * ((LIMIT - len(MODEL)) // 15), at(3), 2, err=b"M: line 5: Form\n"),
+        row("values to the limit", MODEL, b"gdp-point 1\nover 1\nval x 3\n" + b"val x 3\n" * 1_000_000, 2, err=b"P: line 4: NameTwice\n"),
+        Case("size: 9 MB to format", ["format", "M"], {"M": long}, 2, err=b"M: too long\n", is_long=True),
         row("blanks in a line to the limit", MODEL[:-2] + b" " * (LIMIT - len(MODEL)) + MODEL[-2:], at(3), 0, b"holds\n"),
         row("the full model holds", full, holding, 0, b"holds\n"),
         row("the full model fails at its last row", full, failing, 1, b"fails at line 1501\n"),
@@ -292,7 +483,8 @@ def streams():
         tested("out: nobody reads", MODEL, at(3), 6, GONE, b"write fault\n"),
         tested("out: full, err too", MODEL, at(3), 6, FULL, FULL),
         tested("out: closed, err too", MODEL, at(3), 6, CLOSED, CLOSED),
-        tested("out: full, but nothing goes there", b"", at(3), 2, FULL, b"M: not built\n"),
+        tested("out: full, but nothing goes there", b"", at(3), 2, FULL, b"M: line 1: Header\n"),
+        Case("out: a full device, format", ["format", "M"], model, 6, FULL, b"write fault\n"),
         Case("err: full, words", [], {}, 7, err=FULL),
         Case("err: full, no file", ["test", "M", "P"], model, 5, err=FULL),
         Case("err: nobody reads", ["test", "M", "P"], model, 5, err=GONE),
@@ -306,73 +498,40 @@ def streams():
 
 
 def examples(root):
-    """Each example with its points, read where it stands; the README of the examples says the lines."""
-    said = {"blend": 7, "delivery": 12, "tank": 5}
+    """Each example with its points, read where it stands, and its canonical text; the README of the examples says the lines."""
+    said = {"blend": 7, "delivery": 12, "tank": 5, "process_route": 20, "transport": 34, "schedule": 9}
     folder = root / "examples"
     rows = []
     for path in sorted(folder.glob("*.gdp")):
-        model = str(path)
+        model, canonical = str(path), answer(["format", "M"], {"M": path.read_bytes()})[1]
         rows.append(Case(f"example: {path.stem}", ["test", model, model.replace(".gdp", ".point")], {}, 0, b"holds\n"))
         wrong = ["test", model, model.replace(".gdp", "-fails.point")]
         rows.append(Case(f"example: {path.stem} fails", wrong, {}, 1, b"fails at line %d\n" % said[path.stem]))
+        rows.append(Case(f"example: {path.stem} formatted", ["format", model], {}, 0, canonical))
+        rows.append(Case(f"example: {path.stem} formatted twice", ["format", "M"], {"M": canonical}, 0, canonical))
     return rows
 
 
-def verdict(bounds, rows, values):
-    """The verdict by whole numbers of any size: the status and what is written."""
-    for line, (low, high), value in zip(range(2, 9), bounds, values):
-        if (low is not None and value < low) or (high is not None and value > high):
-            return 1, f"fails at line {line}\n"
-    for line, (terms, relation, right) in enumerate(rows, 2 + len(bounds)):
-        total = 0
-        for place in sorted(terms):
-            product = terms[place] * values[place]
-            total += product
-            if not (LEAST <= product <= GREATEST and LEAST <= total <= GREATEST):
-                return 3, f"wide at line {line}\n"
-        if not {"<=": total <= right, ">=": total >= right, "=": total == right}[relation]:
-            return 1, f"fails at line {line}\n"
-    return 0, "holds\n"
+def checked(table):
+    """The table, once what it says of texts is what the second way of reading them says too."""
+    for case in table:
+        is_told = case.status in (0, 1, 2, 3) and isinstance(case.out, bytes) and isinstance(case.err, bytes)
+        if is_told and not case.is_long and all(isinstance(case.files.get(name), bytes) for name in case.words[1:]):
+            told = answer(case.words, case.files)
+            assert told == (case.status, case.out, case.err), f"{case.name}: the table has {case.status, case.out, case.err}, and {told} was reckoned"
+    return table
 
 
 def drawn(count):
-    """Models and points drawn by chance, always the same, with the verdict reckoned here."""
-    draw = random.Random(7)
-    sizes = [3, 30, 10**6, 10**15]
-    table = []
-    for i in range(count):
-        names = ["x", "y", "z"][: draw.randint(1, 3)]
-        # One case in three has numbers whose products reach past 128 bits.
-        far = 2**80 if i % 3 == 0 else 20
-        values = [draw.randint(-far, far) for _ in names]
-        bounds = []
-        for value in values:
-            low, high = sorted(draw.randint(-30, 30) for _ in "ab")
-            bounds.append((None if far > 20 else min(low, value + draw.randint(0, 1)), None if far > 20 else max(high, value)))
-        rows = []
-        for _ in range(draw.randint(0, 6)):
-            size = draw.choice(sizes)
-            places = draw.sample(range(len(names)), draw.randint(1, len(names)))
-            terms = {place: draw.choice([-1, 1]) * draw.randint(1, size) for place in places}
-            exact = sum(c * values[place] for place, c in terms.items())
-            relation = draw.choice(["<=", ">=", "="])
-            gap = 0 if relation == "=" else draw.randint(0, 5) * (1 if relation == "<=" else -1)
-            if draw.randint(0, 7) == 0:
-                gap = -gap if gap else draw.randint(-1, 1)
-            right = max(-(10**15), min(10**15, exact + gap))
-            rows.append((terms, relation, right))
-        lines = ["gdp 1"]
-        for name, (low, high) in zip(names, bounds):
-            lines.append(f"var {name} real {'-inf' if low is None else low} {'inf' if high is None else high}")
-        for terms, relation, right in rows:
-            # The order in the text is that of the draw; the sum goes by the order of the variables.
-            shown = " ".join(f"{'-' if c < 0 else '+'} {abs(c)} {names[place]}" for place, c in terms.items())
-            lines.append(f"row {shown} {relation} {right}")
-        status, out = verdict(bounds, rows, values)
-        table.append(tested(f"drawn {i}", ("\n".join(lines) + "\n").encode(), point(names, values), status, out.encode()))
-    return table
+    """Texts drawn by chance, always the same, with the answer reckoned a second way."""
+    rows = []
+    for i, (words, files) in enumerate(drawn_texts(count)):
+        status, out, err = answer(words, files)
+        rows.append(Case(f"drawn {i}", words, files, status, out, err))
+    return rows
 
 
 def cases(root):
     """The whole table."""
-    return verdicts() + spellings() + words() + reads() + sizes() + streams() + examples(root) + drawn(120)
+    told = verdicts() + spellings() + refusals() + choices() + formats() + words() + reads() + sizes() + streams() + examples(root)
+    return checked(told) + drawn(600)

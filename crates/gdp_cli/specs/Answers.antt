@@ -5,15 +5,17 @@ use Rattle.gdp_io.specs.Shelf.{Contents}
 use Rattle.gdp_cli.specs.declared.status.Status.{Status}
 use Rattle.gdp_cli.specs.declared.status.Status.TheVariants.{Read}
 use Rattle.gdp_cli.specs.Messages.{read_fault}
+use Rattle.gdp_cli.specs.Format.{FormatSays}
 use Rattle.gdp_cli.specs.Statuses.{IsWorked}
 use Rattle.gdp_cli.specs.Test.{TestSays}
 use Rattle.gdp_cli.specs.Words.{Form, IsRead}
-use Rattle.gdp_cli.specs.Words.Form.{Test}
+use Rattle.gdp_cli.specs.Words.Form.{Test, Format}
 
 -- Where the contents behind the names are told, the command answers this status and this text.
 abbrev pub Says : Form → Contents → Status → List ℕ → Type 0
 Says (Test model point) contents status text = (model_text point_text : List ℕ) → contents model ≡ Some model_text → contents point ≡ Some point_text →
     TestSays model point model_text point_text status text
+Says (Format model) contents status text = (model_text : List ℕ) → contents model ≡ Some model_text → FormatSays model model_text status text
 
 -- the count of a name that the command reads rose, and the text tells that name
 abbrev pub SaysFault : Form → (List ℕ → ℕ) → (List ℕ → ℕ) → List ℕ → Type 0

@@ -1,6 +1,8 @@
 -- The texts that the program writes.
 use Rattle.std.specs.Prelude.{ℕ, List, [], ◌∷◌, ◌++◌, codes}
 use Rattle.std.specs.Fmt.{decimal}
+use Rattle.gdp_grammar.specs.declared.cause.ReadCause.{ReadCause}
+use Rattle.gdp_grammar.specs.declared.cause.ReadCause.TheVariants as cause
 
 -- a text with a newline at its end
 abbrev pub line : List ℕ → List ℕ
@@ -14,9 +16,22 @@ read_fault name = line (codes "read fault: " ++ name)
 abbrev pub too_long : List ℕ → List ℕ
 too_long name = line (name ++ codes ": too long")
 
--- the text behind a name is none that is read
-abbrev pub not_built : List ℕ → List ℕ
-not_built name = line (name ++ codes ": not built")
+-- the name of a cause
+abbrev pub cause_name : ReadCause → List ℕ
+cause_name cause.Header = codes "Header"
+cause_name cause.Form = codes "Form"
+cause_name cause.NameTwice = codes "NameTwice"
+cause_name cause.NameUnknown = codes "NameUnknown"
+cause_name cause.Number = codes "Number"
+cause_name cause.Nesting = codes "Nesting"
+cause_name cause.Unclosed = codes "Unclosed"
+cause_name cause.Limit = codes "Limit"
+cause_name cause.Missing = codes "Missing"
+cause_name cause.NotBuilt = codes "NotBuilt"
+
+-- the text behind a name is refused at this line for this cause
+abbrev pub refused_at : List ℕ → ℕ → ReadCause → List ℕ
+refused_at name number cause = line (name ++ codes ": line " ++ decimal number ++ codes ": " ++ cause_name cause)
 
 -- the verdict on a point
 abbrev pub holds : List ℕ

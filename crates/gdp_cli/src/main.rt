@@ -5,17 +5,19 @@
 //! over the texts behind its names, that text goes to `out` or to `err`, and a read or write is told as failed only
 //! where a count of faults rose.
 //!
-//! Read `specs/Words.antt` and `specs/Test.antt`, then `run.rt`, `streams.rt` and `test_command.rt`.
+//! Read `specs/Words.antt`, `specs/Test.antt` and `specs/Format.antt`, then `run.rt`, `streams.rt`, `test_command.rt` and
+//! `format_command.rt`.
 #![tactic(auto)]
 
+mod format_command;
 mod messages;
-mod reader;
 mod run;
 mod status;
 mod streams;
 mod test_command;
 #[cfg(test)]
 mod tests;
+mod texts;
 mod words;
 
 use gdp_io::{FileShelf, OutSink};

@@ -1,12 +1,11 @@
-//! The texts that the program writes, and what a command answers.
-ghost use Rattle.std.specs.Prelude.{◌≡◌, ◌++◌, IfOk, codes};
+//! The lines that the program writes, and what a command answers.
+ghost use Rattle.std.specs.Prelude.{◌≡◌, ◌++◌, IfOk};
 ghost use Rattle.std.specs.Fmt.{decimal};
 ghost use Rattle.gdp_cli.specs.Messages.{line};
-ghost use Rattle.gdp_cli.specs.Replies.{ReadFailed};
 
 use crate::status::Status;
 use fractions::Memory;
-use gdp_io::{ReadAllError, Text};
+use gdp_io::Text;
 use std::alloc::Global;
 
 /// What a command answers: a status, and the text that goes with it.
@@ -33,22 +32,4 @@ pub fn make_place(alloc: Global, before: &[u8], mark: u32) -> Result<Text, Memor
 {
     let number = mark.to_string(alloc)?;
     make_line(alloc, before, number.as_bytes())
-}
-
-/// What a command answers where the text behind a name was not read.
-pub fn read_failed(alloc: Global, error: ReadAllError, name: &str) -> Result<Reply, Memory>
-    ensures { IfOk result (λ reply. ReadFailed error name.now reply.status reply.text) }
-{
-    let (status, text) = match error {
-        ReadAllError::Read => (
-            Status::Read,
-            make_line(alloc, b"read fault: ", name.as_bytes())?,
-        ),
-        ReadAllError::TooLong => (
-            Status::Text,
-            make_line(alloc, name.as_bytes(), b": too long")?,
-        ),
-        ReadAllError::Memory => return Err(Memory),
-    };
-    Ok(Reply { status, text })
 }

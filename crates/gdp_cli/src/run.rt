@@ -9,6 +9,7 @@ ghost use Rattle.gdp_cli.specs.Statuses.{IsOut, IsRefused, IsWorked};
 ghost use Rattle.gdp_cli.specs.Streams.{Sent};
 ghost use Rattle.gdp_cli.specs.Words.{Form, IsForm, NoForm, words_of};
 
+use crate::format_command::format_command;
 use crate::messages::Reply;
 use crate::status::Status;
 use crate::streams::{deliver, say};
@@ -81,5 +82,6 @@ fn answer<S: Shelf>(alloc: Global, command: Command<'_>, shelf: &mut S) -> Resul
 {
     match command {
         Command::Test { model, point } => test_command(alloc, shelf, model, point),
+        Command::Format { model } => format_command(alloc, shelf, model),
     }
 }

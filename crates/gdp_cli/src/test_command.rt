@@ -2,22 +2,20 @@
 ghost use Rattle.std.specs.Prelude.{◌≡◌, ℕ, List, IfOk};
 ghost use Rattle.gdp_cli.specs.Answers.{Answers};
 ghost use Rattle.gdp_cli.specs.Statuses.{IsWorked};
-ghost use Rattle.gdp_cli.specs.Test.{TestSays, PointSays, VerdictSays, IsLong};
+ghost use Rattle.gdp_cli.specs.Test.{TestSays, TestedSays, VerdictSays};
+ghost use Rattle.gdp_cli.specs.Texts.{IsLong, ModelSays, PointSays};
 ghost use Rattle.block_tree.specs.Values.{model_tree};
-ghost use Rattle.gdp_cli.specs.Messages.{not_built};
 ghost use Rattle.gdp_cli.specs.Table.{IsOne};
 ghost use Rattle.gdp_cli.specs.Words.Form.{Test};
 
-use crate::messages::{Reply, make_line, make_place, read_failed};
-use crate::reader::{ReadError, read_model, read_point};
+use crate::messages::{Reply, make_line, make_place};
 use crate::status::Status;
+use crate::texts::{LIMIT, read_failed, refuse_at};
 use block_tree::{Model, SumWide, Verdict, satisfies};
 use fractions::Memory;
 use gdp_io::{Shelf, Text, read_all};
+use gdp_reader::{ReadError, read_model, read_point};
 use std::alloc::Global;
-
-/// The limit on a model and a point text, in bytes.
-pub const LIMIT: u64 = 8_388_608;
 
 /// Reads both texts, the model's first, and answers by them.
 pub fn test_command<S: Shelf>(
@@ -54,7 +52,7 @@ fn judge(
 {
     match read_model(alloc, model_text.as_slice()) {
         Ok(read) => judge_point(alloc, &read, point, point_text),
-        Err(ReadError::NotBuilt) => not_built(alloc, model),
+        Err(ReadError::At { line, cause }) => refuse_at(alloc, model, line, cause),
         Err(ReadError::Memory) => Err(Memory),
     }
 }
@@ -67,25 +65,14 @@ fn judge_point(
     point_text: &Text,
 ) -> Result<Reply, Memory>
     ensures worked { IfOk result (λ reply. IsWorked reply.status) }
-    ensures says { IfOk result (λ reply. PointSays (model_tree model.now) point.now point_text.now reply.status reply.text) }
+    ensures says { IfOk result (λ reply. PointSays (model_tree model.now) point.now point_text.now (TestedSays (model_tree model.now)) reply.status reply.text) }
 {
     let at = match read_point(alloc, model, point_text.as_slice()) {
         Ok(at) => at,
-        Err(ReadError::NotBuilt) => return not_built(alloc, point),
+        Err(ReadError::At { line, cause }) => return refuse_at(alloc, point, line, cause),
         Err(ReadError::Memory) => return Err(Memory),
     };
     verdict_reply(alloc, satisfies(model, &at.at, at.truths.as_slice()))
-}
-
-/// The answer where a text is none that is read.
-fn not_built(alloc: Global, name: &str) -> Result<Reply, Memory>
-    ensures { IfOk result (λ reply. (reply.status ≡ Status.Text) × (reply.text ≡ not_built name.now)) }
-{
-    let text = make_line(alloc, name.as_bytes(), b": not built")?;
-    Ok(Reply {
-        status: Status::Text,
-        text,
-    })
 }
 
 /// The answer of a verdict.

@@ -1,0 +1,68 @@
+//! The texts that commands read: their limit, and what is answered where one is not read or is refused.
+ghost use Rattle.std.specs.Prelude.{◌≡◌, IfOk};
+ghost use Rattle.gdp_cli.specs.Messages.{cause_name, refused_at};
+ghost use Rattle.gdp_cli.specs.Replies.{ReadFailed};
+
+use crate::messages::{Reply, make_line};
+use crate::status::Status;
+use fractions::Memory;
+use gdp_grammar::ReadCause;
+use gdp_io::{ReadAllError, Text};
+use std::alloc::Global;
+
+/// The limit on a model and a point text, in bytes.
+pub const LIMIT: u64 = 8_388_608;
+
+/// The name of a cause.
+fn name_of(cause: ReadCause) -> &'static [u8]
+    ensures { result.now ≡ cause_name cause }
+{
+    match cause {
+        ReadCause::Header => b"Header",
+        ReadCause::Form => b"Form",
+        ReadCause::NameTwice => b"NameTwice",
+        ReadCause::NameUnknown => b"NameUnknown",
+        ReadCause::Number => b"Number",
+        ReadCause::Nesting => b"Nesting",
+        ReadCause::Unclosed => b"Unclosed",
+        ReadCause::Limit => b"Limit",
+        ReadCause::Missing => b"Missing",
+        ReadCause::NotBuilt => b"NotBuilt",
+    }
+}
+
+/// What a command answers where the text behind a name is refused at a line.
+pub fn refuse_at(alloc: Global, name: &str, line: u32, cause: ReadCause) -> Result<Reply, Memory>
+    ensures { IfOk result (λ reply. (reply.status ≡ Status.Text) × (reply.text ≡ refused_at name.now line cause)) }
+{
+    let number = line.to_string(alloc)?;
+    let mut text = Text::new(alloc);
+    text.append(alloc, name.as_bytes())?;
+    text.append(alloc, b": line ")?;
+    text.append(alloc, number.as_bytes())?;
+    text.append(alloc, b": ")?;
+    text.append(alloc, name_of(cause))?;
+    text.push(alloc, b'\n')?;
+    Ok(Reply {
+        status: Status::Text,
+        text,
+    })
+}
+
+/// What a command answers where the text behind a name was not read.
+pub fn read_failed(alloc: Global, error: ReadAllError, name: &str) -> Result<Reply, Memory>
+    ensures { IfOk result (λ reply. ReadFailed error name.now reply.status reply.text) }
+{
+    let (status, text) = match error {
+        ReadAllError::Read => (
+            Status::Read,
+            make_line(alloc, b"read fault: ", name.as_bytes())?,
+        ),
+        ReadAllError::TooLong => (
+            Status::Text,
+            make_line(alloc, name.as_bytes(), b": too long")?,
+        ),
+        ReadAllError::Memory => return Err(Memory),
+    };
+    Ok(Reply { status, text })
+}
