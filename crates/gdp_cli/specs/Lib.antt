@@ -1,14 +1,9 @@
 pub mod Answers
-pub mod Building
 pub mod Command
-pub mod Gives
-pub mod Lines
 pub mod Messages
 pub mod Replies
 pub mod Statuses
 pub mod Streams
 pub mod Table
-pub mod Taking
 pub mod Test
-pub mod Tokens
 pub mod Words

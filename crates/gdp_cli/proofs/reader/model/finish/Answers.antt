@@ -1,7 +1,0 @@
-use Rattle.std.proofs.Common.{sym, ◌∙◌}
-use Rattle.gdp_cli.specs.Taking.{taken_of}
-use Rattle.gdp_cli.proofs.Plains.{end_refused}
-use Rattle.gdp_cli.proofs.reader.model.finish.Goals as goal
-
-pub returns-in-Refused : goal.returns-in-Refused
-returns-in-Refused c = end_refused (taken_of c.args.taking) c.args.line c.in-Err.refusal c.in-Refused.cause c.if-not-taking.false c.in-Err.ensures.err.0 (sym c.refused.ensures ∙ c.in-Refused.is)

@@ -1,0 +1,9 @@
+pub mod BuildingSteps
+pub mod Cuts
+pub mod Ends
+pub mod FirstLines
+pub mod Marks
+pub mod PointNumbers
+pub mod Reading
+pub mod SumSteps
+pub mod Values

@@ -1,0 +1,5 @@
+pub mod Building
+pub mod Gives
+pub mod Lines
+pub mod Taking
+pub mod Tokens

@@ -1,0 +1,26 @@
+-- What the reader's lines say.
+use Rattle.std.specs.Prelude.{ℕ, List, map, Option}
+use Rattle.std.specs.Option.{option_map}
+use Rattle.gdp_grammar.specs.Forms as text
+use Rattle.gdp_reader.specs.declared.form.Signed.{Signed}
+use Rattle.gdp_reader.specs.declared.form.Summand.{Summand}
+use Rattle.gdp_reader.specs.declared.form.Form.{Form}
+use Rattle.gdp_reader.specs.declared.form.Form.TheVariants.{Var, Row}
+use Rattle.gdp_reader.specs.Tokens.{spelled}
+
+-- the number with its sign
+abbrev pub signed : Signed → text.Signed
+signed s = record { is_negative = s.is_negative; size = spelled s.size }
+
+-- the term of a sum
+abbrev pub summand : Summand → text.Summand
+summand s = record { is_negative = s.is_negative; size = option_map spelled s.size; name = s.name.now }
+
+-- a term with the number of its variable
+abbrev pub named_summand : ℕ × Summand → ℕ × text.Summand
+named_summand t = (t.0, summand t.1)
+
+-- the line
+abbrev pub form : Form → text.Form
+form (Var name kind low high) = text.Var name.now kind (option_map signed low) (option_map signed high)
+form (Row sum rel right) = text.Row (map summand sum.items) rel (signed right)

@@ -1,0 +1,176 @@
+//! What a line adds to the model that is being built.
+
+ghost use Rattle.std.specs.Prelude.{◌≡◌, ℕ, List, map, IfOk};
+ghost use Rattle.std.specs.Option.{option_map};
+ghost use Rattle.block_tree.specs.Standing.{stands_for};
+ghost use Rattle.gdp_grammar.specs.Reading.{
+  named,
+  has_twice as has_twice_in,
+  known_terms,
+  valued_terms,
+  coefficient as coefficient_in,
+  with_var,
+  with_row,
+  with_form,
+};
+ghost use Rattle.gdp_reader.specs.Building.{line_error};
+ghost use Rattle.gdp_reader.specs.Gives.{Gives};
+ghost use Rattle.gdp_reader.specs.Lines.{signed, summand, named_summand, form};
+ghost use Rattle.gdp_reader.specs.Tokens.{spelled};
+
+use crate::fault::LineError;
+use crate::form::{Form, Signed, Summand};
+use crate::token::Numeral;
+use crate::value::{end, signed_whole, value};
+use block_tree::{Bound, BuildError, ModelBuilder};
+use fractions::{Frac, Memory};
+use gdp_grammar::ReadCause;
+use lp_rows::{Kind, Rel};
+use std::alloc::Global;
+
+/// The cause of a refusal of the builder.
+pub fn refused(refusal: BuildError) -> LineError
+    ensures { result ≡ line_error refusal }
+{
+    match refusal {
+        BuildError::Place => LineError::Refused(ReadCause::Form),
+        BuildError::NameTwice => LineError::Refused(ReadCause::NameTwice),
+        BuildError::NameUnknown => LineError::Refused(ReadCause::NameUnknown),
+        BuildError::Number => LineError::Refused(ReadCause::Number),
+        BuildError::Nesting => LineError::Refused(ReadCause::Nesting),
+        BuildError::Unclosed => LineError::Refused(ReadCause::Unclosed),
+        BuildError::Limit => LineError::Refused(ReadCause::Limit),
+        BuildError::Missing => LineError::Refused(ReadCause::Missing),
+        BuildError::Memory => LineError::Memory,
+    }
+}
+
+/// Declares a variable.
+#[tactic(auto, unfolding(gdp_grammar::specs::Reading::with_var))]
+fn add_var(
+    alloc: Global,
+    builder: &mut ModelBuilder,
+    line: u32,
+    name: &str,
+    kind: Kind,
+    low: &Option<Signed<'_>>,
+    high: &Option<Signed<'_>>,
+) -> Result<(), LineError>
+    ensures { Gives (λ _. stands_for builder.new) result (with_var (stands_for builder.old) line name.now kind (option_map signed low.now) (option_map signed high.now)) }
+{
+    if !builder.is_at_root() {
+        return Err(LineError::Refused(ReadCause::Form));
+    }
+    if builder.is_taken(name) {
+        return Err(LineError::Refused(ReadCause::NameTwice));
+    }
+    let low = end(low)?;
+    let high = end(high)?;
+    match builder.var(alloc, name, kind, Bound { low, high }, line) {
+        Ok(_) => Ok(()),
+        Err(refusal) => Err(refused(refusal)),
+    }
+}
+
+/// Whether one variable stands twice in a sum.
+fn has_twice(alloc: Global, builder: &ModelBuilder, sum: &[Summand<'_>]) -> Result<bool, Memory>
+    ensures { IfOk result (λ twice. twice ≡ has_twice_in (named (stands_for builder.now).vars (map summand sum.now))) }
+{
+    let mut seen = vec![in alloc; false; builder.var_count()]?;
+    'terms: for term in sum {
+        if let Some(id) = builder.var_id(term.name) {
+            let id = id as usize;
+            if seen[id] {
+                return Ok(true);
+            }
+            seen[id] = true;
+        }
+    }
+    Ok(false)
+}
+
+/// The terms of a sum with the numbers of their variables.
+fn known<'a>(
+    alloc: Global,
+    builder: &ModelBuilder,
+    sum: &[Summand<'a>],
+) -> Result<Vec<(u32, Summand<'a>)>, LineError>
+    ensures { Gives (λ terms. map named_summand terms.items) result (known_terms (stands_for builder.now).vars (map summand sum.now)) }
+{
+    let mut terms = Vec::new(alloc);
+    'terms: for term in sum {
+        let Some(id) = builder.var_id(term.name) else {
+            return Err(LineError::Refused(ReadCause::NameUnknown));
+        };
+        terms.push((id, *term))?;
+    }
+    Ok(terms)
+}
+
+/// The coefficient of a term, if it is in range.
+fn coefficient(is_negative: bool, size: &Option<Numeral<'_>>) -> Option<Frac>
+    ensures { result ≡ coefficient_in is_negative (option_map spelled size.now) }
+{
+    match size {
+        None => Some(signed_whole(is_negative, 1)),
+        Some(size) => value(is_negative, size),
+    }
+}
+
+/// The terms with the values of their coefficients.
+fn valued(alloc: Global, terms: &[(u32, Summand<'_>)]) -> Result<Vec<(u32, Frac)>, LineError>
+    ensures { Gives (λ valued. valued.items) result (valued_terms (map named_summand terms.now)) }
+{
+    let mut valued = Vec::new(alloc);
+    'terms: for term in terms {
+        let Some(coefficient) = coefficient(term.1.is_negative, &term.1.size) else {
+            return Err(LineError::Refused(ReadCause::Number));
+        };
+        valued.push((term.0, coefficient))?;
+    }
+    Ok(valued)
+}
+
+/// Adds a row.
+#[tactic(auto, unfolding(gdp_grammar::specs::Reading::with_row))]
+fn add_row(
+    alloc: Global,
+    builder: &mut ModelBuilder,
+    line: u32,
+    sum: &[Summand<'_>],
+    rel: Rel,
+    right: &Signed<'_>,
+) -> Result<(), LineError>
+    ensures { Gives (λ _. stands_for builder.new) result (with_row (stands_for builder.old) line (map summand sum.now) rel (signed right.now)) }
+{
+    if builder.is_in_disjunction() {
+        return Err(LineError::Refused(ReadCause::Form));
+    }
+    if has_twice(alloc, builder, sum)? {
+        return Err(LineError::Refused(ReadCause::NameTwice));
+    }
+    let terms = known(alloc, builder, sum)?;
+    let terms = valued(alloc, terms.as_slice())?;
+    let Some(right) = value(right.is_negative, &right.size) else {
+        return Err(LineError::Refused(ReadCause::Number));
+    };
+    match builder.row(alloc, terms.as_slice(), rel, right, line) {
+        Ok(()) => Ok(()),
+        Err(refusal) => Err(refused(refusal)),
+    }
+}
+
+/// Adds what a line of this form says.
+pub fn add(
+    alloc: Global,
+    builder: &mut ModelBuilder,
+    line: u32,
+    read: &Form<'_>,
+) -> Result<(), LineError>
+    ensures { Gives (λ _. stands_for builder.new) result (with_form (stands_for builder.old) line (form read.now)) }
+{
+    match read {
+        Form::Var(name, kind, low, high) => add_var(alloc, builder, line, name, *kind, low, high),
+        Form::Row(sum, rel, right) => add_row(alloc, builder, line, sum, *rel, right),
+    }
+}

@@ -1,0 +1,148 @@
+//! Reads model texts.
+
+ghost use Rattle.std.specs.Prelude.{◌≡◌, ◌^◌, ◌-◌, ◌<◌, ◌≤◌, length, IfOk, IfErr};
+ghost use Rattle.block_tree.specs.Values.{ModelTree, model_tree};
+ghost use Rattle.gdp_grammar.specs.Following.{at_line, follow, text_gives};
+ghost use Rattle.gdp_grammar.specs.Lines.{lines_of};
+ghost use Rattle.gdp_grammar.specs.Reading.{nothing_taken, with_header, with_tokens, with_line, model_after};
+ghost use Rattle.gdp_grammar.specs.Spelling.{Spells};
+ghost use Rattle.gdp_grammar.specs.Tokens.{tokens_of};
+ghost use Rattle.gdp_grammar.specs.Words.{words_of};
+ghost use Rattle.gdp_reader.specs.Gives.{Gives};
+ghost use Rattle.gdp_reader.specs.Taking.{taken_of, GivesText, IsReadAs, IsRefused};
+
+use crate::building::{add, refused};
+use crate::error::ReadError;
+use crate::fault::LineError;
+use crate::form::read_form;
+use crate::line::{first_line, without_comment};
+use crate::token::Tokens;
+use crate::word::{are_words, is_blank};
+use block_tree::{Model, ModelBuilder};
+use gdp_grammar::ReadCause;
+use std::alloc::Global;
+
+/// What the lines so far gave.
+#[derive(Drop)]
+struct Taking {
+    is_headed: bool,
+    builder: ModelBuilder,
+}
+
+impl Taking {
+    /// Before the first line.
+    fn new(alloc: Global) -> Taking
+        ensures { taken_of result ≡ nothing_taken }
+    {
+        Taking {
+            is_headed: false,
+            builder: ModelBuilder::new(alloc),
+        }
+    }
+
+    /// The header is the first line that isn't blank.
+    fn take_header(&mut self, line: &[u8]) -> Result<(), LineError>
+        ensures { Gives (λ _. taken_of self.new) result (with_header (taken_of self.old) (words_of line.now)) }
+    {
+        if is_blank(line) {
+            return Ok(());
+        }
+        if !are_words(line, b"gdp", b"1") {
+            return Err(LineError::Refused(ReadCause::Header));
+        }
+        self.is_headed = true;
+        Ok(())
+    }
+
+    /// A line after the header adds what its form says, and a blank one nothing.
+    fn take_form(&mut self, alloc: Global, line: u32, content: &[u8]) -> Result<(), LineError>
+        ensures { Gives (λ _. taken_of self.new) result (with_tokens (taken_of self.old) line (tokens_of content.now)) }
+    {
+        let mut tokens = Tokens::new(content);
+        if tokens.peek().is_none() {
+            return Ok(());
+        }
+        let form = read_form(alloc, &mut tokens)?;
+        add(alloc, &mut self.builder, line, &form)
+    }
+
+    /// Takes a line.
+    #[tactic(auto, unfolding(gdp_grammar::specs::Reading::with_line))]
+    fn take(&mut self, alloc: Global, line: u32, bytes: &[u8]) -> Result<(), LineError>
+        ensures { Gives (λ _. taken_of self.new) result (with_line (taken_of self.old) line bytes.now) }
+    {
+        let content = without_comment(bytes);
+        if self.is_headed {
+            return self.take_form(alloc, line, content);
+        }
+        self.take_header(content)
+    }
+}
+
+/// What the lines of a text give, and how many there are.
+fn take_lines(alloc: Global, text: &[u8]) -> Result<(Taking, u32), ReadError>
+    requires { length text.now < 2 ^ 32 - 1 }
+    ensures taken { GivesText (λ x. taken_of x.0) result (follow 1 nothing_taken (lines_of text.now)) }
+    ensures counted { IfOk result (λ x. x.1 ≡ length (lines_of text.now)) }
+    ensures few { IfOk result (λ x. x.1 ≤ length text.now) }
+{
+    let mut taking = Taking::new(alloc);
+    let mut rest = text;
+    let mut lines = 0u32;
+    'lines: while !rest.is_empty() {
+        let (first, after) = first_line(rest);
+        lines += 1;
+        match taking.take(alloc, lines, first) {
+            Ok(()) => {}
+            Err(LineError::Refused(cause)) => return Err(ReadError::At { line: lines, cause }),
+            Err(LineError::Memory) => return Err(ReadError::Memory),
+        }
+        rest = after;
+    }
+    Ok((taking, lines))
+}
+
+/// The model that the lines gave; `line` is the number after the last one's.
+#[tactic(auto, unfolding(gdp_grammar::specs::Reading::model_after))]
+fn finish(alloc: Global, taking: Taking, line: u32) -> Result<Model, ReadError>
+    ensures { GivesText model_tree result (at_line line (model_after (taken_of taking))) }
+{
+    if !taking.is_headed {
+        return Err(ReadError::At {
+            line,
+            cause: ReadCause::Header,
+        });
+    }
+    let Taking { builder, .. } = taking;
+    match builder.finish(alloc) {
+        Ok(model) => Ok(model),
+        Err((_, refusal)) => match refused(refusal) {
+            LineError::Refused(cause) => Err(ReadError::At { line, cause }),
+            LineError::Memory => Err(ReadError::Memory),
+        },
+    }
+}
+
+/// The model that the lines of a text give, or its first bad line.
+fn read_text(alloc: Global, text: &[u8]) -> Result<Model, ReadError>
+    requires { length text.now < 2 ^ 32 - 1 }
+    ensures { GivesText model_tree result (text_gives text.now) }
+{
+    match take_lines(alloc, text) {
+        Ok((taking, lines)) => finish(alloc, taking, lines + 1),
+        Err(error) => Err(error),
+    }
+}
+
+/// The model that a text spells, or its first bad line with its cause.
+pub fn read_model(alloc: Global, text: &[u8]) -> Result<Model, ReadError>
+    requires { length text.now < 2 ^ 32 - 1 }
+    // What is read is spelled.
+    ensures found { IfOk result (λ model. Spells text.now (model_tree model)) }
+    // What is spelled is read, and nothing else, unless memory was wanted.
+    ensures only { (m : ModelTree) → Spells text.now m → IsReadAs m result }
+    // What is refused is the first bad line, with its cause.
+    ensures refused { IfErr result (λ error. IsRefused text.now error) }
+{
+    read_text(alloc, text)
+}
