@@ -5,9 +5,13 @@ pub mod Following
 pub mod Forms
 pub mod Keywords
 pub mod Laws
+pub mod LineGrammars
 pub mod Lines
 pub mod Numerals
 pub mod Plain
+pub mod PointForms
+pub mod PointReading
+pub mod PointSpelling
 pub mod Points
 pub mod Reading
 pub mod Spelling
