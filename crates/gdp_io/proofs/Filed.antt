@@ -24,6 +24,15 @@ found_at files index file name within is same so_far =
     ap bytes_of (slice_get-get_or files index file within ∙ ap Some (sym is)) ∙ sym (behind_found name file (drop (index + 1) files) same)
     ∙ ap (λ rest. behind rest name) (ap (λ first. first ∷ drop (index + 1) files) is ∙ sym (drop_more files index file within)) ∙ so_far
 
+-- nothing stands behind a name that no file has
+missing_by : (b known : Bool) (bytes rest : List ℕ) → (known ≡ false → rest ≡ []) → (b || known) ≡ false → cond b bytes rest ≡ []
+missing_by true known bytes rest empty missing = cc missing
+missing_by false known bytes rest empty missing = empty missing
+
+pub behind_missing : (files : List File) (name : List ℕ) → has files name ≡ false → behind files name ≡ []
+behind_missing [] name missing = refl
+behind_missing (file ∷ files) name missing = missing_by (bytes_eq file.name name) (has files name) file.bytes (behind files name) (behind_missing files name) missing
+
 -- one more file at the end
 behind_more_by : (b : Bool) (name bytes : List ℕ) (more : File) (files : List File) →
     (has files name ≡ false → behind (files ++ more ∷ []) name ≡ behind (more ∷ []) name) →

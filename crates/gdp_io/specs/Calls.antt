@@ -1,7 +1,10 @@
--- Calls that are numbered, some of which fail.
-use Rattle.std.specs.Prelude.{◌≡◌, ◌+◌, ◌-◌, ◌^◌, ◌⊎◌, Contains}
-use Rattle.gdp_io.specs.declared.calls.Calls.{Calls}
+-- Calls that are numbered from 1, some of which fail.
+use Rattle.std.specs.Prelude.{◌≡◌, ℕ, ◌+◌, ◌-◌, ◌^◌, ◌⊎◌, List, min, Contains}
 
--- the next call fails: its number is listed, or the numbers are used up
-abbrev pub FailsNext : Calls → Type 0
-FailsNext calls = (calls.made ≡ 2 ^ 32 - 1) ⊎ Contains calls.failing.items (calls.made + 1)
+-- after so many calls the next one fails: its number is listed, or the numbers are used up
+abbrev pub FailsAfter : List ℕ → ℕ → Type 0
+FailsAfter failing made = (made ≡ 2 ^ 32 - 1) ⊎ Contains failing (made + 1)
+
+-- how many calls were made after one more; the greatest number stays
+abbrev pub one_more : ℕ → ℕ
+one_more made = min (made + 1) (2 ^ 32 - 1)

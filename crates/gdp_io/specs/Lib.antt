@@ -2,6 +2,7 @@ pub mod Causes
 pub mod Shelf
 pub mod Sink
 pub mod Folder
+pub mod Host
 pub mod Calls
 pub mod MemShelf
 pub mod MemSink

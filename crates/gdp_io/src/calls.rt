@@ -1,5 +1,6 @@
 //! Calls that are numbered from 1, some of which fail.
-ghost use Rattle.std.specs.Prelude.{◌≡◌, [], ◌+◌, ◌-◌, ◌^◌, min, IfOk, IsTrue, ◌↔◌};
+ghost use Rattle.std.specs.Prelude.{◌≡◌, IfOk, IsTrue, ◌↔◌};
+ghost use Rattle.gdp_io.specs.Calls.{FailsAfter, one_more};
 
 use fractions::Memory;
 use std::alloc::Global;
@@ -12,8 +13,6 @@ pub(crate) struct Calls {
 }
 
 impl Calls {
-    ghost use Rattle.gdp_io.specs.Calls.{FailsNext};
-
     /// No call made yet; those of these numbers will fail.
     pub(crate) fn new(alloc: Global, failing: &[u32]) -> Result<Calls, Memory>
         ensures { IfOk result (λ calls. (calls.failing.items ≡ failing.now) × (calls.made ≡ 0)) }
@@ -24,8 +23,8 @@ impl Calls {
 
     /// Counts a call, and says whether it fails. Where the numbers are used up, each call fails.
     pub(crate) fn next_fails(&mut self) -> bool
-        ensures fails { IsTrue result ↔ FailsNext self.old }
-        ensures counted { self.new.made ≡ min (self.old.made + 1) (2 ^ 32 - 1) }
+        ensures fails { IsTrue result ↔ FailsAfter self.old.failing.items self.old.made }
+        ensures counted { self.new.made ≡ one_more self.old.made }
         ensures listed { self.new.failing.items ≡ self.old.failing.items }
     {
         match self.made.checked_add(1) {

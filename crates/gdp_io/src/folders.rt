@@ -39,7 +39,8 @@ impl Folder {
 
     /// Whether a file has this name.
     pub(crate) fn has(&self, name: &str) -> bool
-        ensures { result ≡ has self.now.files.items name.now }
+        ensures known { result ≡ has self.now.files.items name.now }
+        ensures unknown { result ≡ false → behind self.now.files.items name.now ≡ [] }
     {
         find(self.files.as_slice(), name).is_some()
     }

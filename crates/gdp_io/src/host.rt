@@ -1,5 +1,10 @@
 //! The host's files and streams: the trusted edge. What they hold is told by no contract.
-ghost use Rattle.std.specs.Prelude.{◌≡◌, ℕ, ◌≤◌, List, None, IsSome};
+ghost use Rattle.std.specs.Prelude.{◌≡◌, ℕ, ◌<◌, ◌≤◌, List, length, take, None, IsSome, IfOk, OnErr};
+ghost use Rattle.std.specs.Io.{ReadsAtMost};
+ghost use Rattle.std.specs.Io.KnownBytes.{ReadConsumes, WriteAppends};
+ghost use Rattle.gdp_io.specs.Causes.{Rose};
+ghost use Rattle.gdp_io.specs.Host.{left_of};
+ghost use Rattle.gdp_io.specs.Shelf.{SameOpen, Reads};
 
 use crate::shelves::{Failed, Shelf};
 use crate::sinks::Sink;
@@ -52,7 +57,15 @@ impl<'a, R: Files> Shelf for FileShelf<'a, R> {
         }
     }
 
-    fn read(&mut self, into: &mut [u8]) -> Result<usize, Failed> {
+    fn read(&mut self, into: &mut [u8]) -> Result<usize, Failed>
+        // The open file gave these bytes.
+        ensures host { ReadConsumes (left_of R.File.remaining self.old.file) (left_of R.File.remaining self.new.file) result into.new }
+        ensures bound { ReadsAtMost result into.new }
+        ensures reads { IfOk result (λ n. Reads (λ _. None) (λ _ _. ⊥) (λ _ _. ⊥) (take n into.new)) }
+        ensures is_open { SameOpen (λ _. IsSome self.old.file) (λ _. IsSome self.new.file) }
+        ensures later { self.old.faults ≤ self.new.faults }
+        ensures cause { OnErr result ((name : List ℕ) → IsSome self.old.file → Rose self.old.faults self.new.faults) }
+    {
         if let Some(file) = &mut self.file {
             if let Ok(count) = file.read(into) {
                 return Ok(count);
@@ -84,7 +97,13 @@ impl<W: std::io::Write + Drop> Sink for OutSink<W> {
 
     ghost faults = { λ s. s.faults };
 
-    fn write(&mut self, piece: &[u8]) -> Result<usize, Failed> {
+    fn write(&mut self, piece: &[u8]) -> Result<usize, Failed>
+        // The stream took these bytes.
+        ensures host { WriteAppends (W.contents self.old.to) (W.contents self.new.to) result piece.now }
+        ensures bound { IfOk result (λ n. (0 < n) × (n ≤ length piece.now)) }
+        ensures later { self.old.faults ≤ self.new.faults }
+        ensures cause { OnErr result (Rose self.old.faults self.new.faults) }
+    {
         match self.to.write(piece) {
             Ok(count) if 0 < count => Ok(count),
             _ => {

@@ -31,7 +31,8 @@ impl SureShelf {
 
     /// Whether a file has this name.
     pub fn has(&self, name: &str) -> bool
-        ensures { result ≡ has_name self.now name.now }
+        ensures known { result ≡ has_name self.now name.now }
+        ensures unknown { result ≡ false → ⟦<SureShelf as Shelf>⟧.contents self.now name.now ≡ Some [] }
     {
         self.folder.has(name)
     }
