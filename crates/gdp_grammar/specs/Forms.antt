@@ -5,6 +5,10 @@ use Rattle.lp_rows.specs.declared.kinds.Kind.{Kind}
 use Rattle.lp_rows.specs.declared.kinds.Kind.TheVariants as kind
 use Rattle.lp_rows.specs.declared.kinds.Rel.{Rel}
 use Rattle.lp_rows.specs.declared.kinds.Rel.TheVariants as rel
+use Rattle.lp_rows.specs.declared.kinds.Sense.{Sense}
+use Rattle.lp_rows.specs.declared.kinds.Sense.TheVariants.{Min, Max}
+use Rattle.block_tree.specs.declared.tree.Mode.{Mode}
+use Rattle.block_tree.specs.declared.tree.Mode.TheVariants as mode
 use Rattle.gdp_grammar.specs.declared.cause.ReadCause.{ReadCause}
 use Rattle.gdp_grammar.specs.declared.cause.ReadCause.TheVariants as cause
 use Rattle.gdp_grammar.specs.declared.symbol.Symbol.TheVariants.{Plus, Minus, AtMost, AtLeast, Equal}
@@ -27,7 +31,12 @@ pub record Summand : Type 0 where
 -- a line, by what it says
 pub data Form : Type 0 where
   Var : (name : List ℕ) (kind : Kind) (low high : Option Signed) → Form
+  Boolean : (name : List ℕ) → Form
+  Goal : (sense : Sense) (sum : List Summand) (constant : Option Signed) → Form
   Row : (sum : List Summand) (rel : Rel) (right : Signed) → Form
+  Disjunction : (mode : Mode) → Form
+  Disjunct : (name : List ℕ) → Form
+  End : Form
 
 -- nothing is left
 abbrev pub ended : List Piece → Result (Unit {0}) ReadCause
@@ -97,10 +106,16 @@ summand_of is_negative ps = do
   name ← name_of ps
   Ok (record { is_negative = is_negative; size = None; name = name.0 }, name.1)
 
--- the sign between two terms, if one comes
+-- a number is all that is left
+abbrev pub number_alone : List Piece → Bool
+number_alone (Number number ∷ []) = true
+number_alone _ = false
+
+-- The sign between two terms, if one comes. A sign before a number that ends the line joins no term: it is that of a
+-- goal's constant.
 abbrev pub joint_of : List Piece → Option Bool
-joint_of (Mark Plus ∷ ps) = Some false
-joint_of (Mark Minus ∷ ps) = Some true
+joint_of (Mark Plus ∷ ps) = if number_alone ps then None else Some false
+joint_of (Mark Minus ∷ ps) = if number_alone ps then None else Some true
 joint_of _ = None
 
 -- the number is spelled `0`
@@ -140,6 +155,27 @@ nought_next _ = false
 unfoldable pub sum_of : List Piece → Result (List Summand × List Piece) ReadCause
 sum_of ps = if nought_next ps then Ok ([], drop 1 ps) else summands_of ps
 
+-- `xor` or `or`
+abbrev pub mode_of : List Piece → Result (Mode × List Piece) ReadCause
+mode_of (Word word ∷ ps) =
+    if bytes_eq word (codes "xor") then Ok (mode.Xor, ps)
+    else (if bytes_eq word (codes "or") then Ok (mode.Or, ps) else Err cause.Form)
+mode_of _ = Err cause.Form
+
+-- a number that ends the line, after its sign
+abbrev pub last_number : Bool → List Piece → Result (Option Signed) ReadCause
+last_number is_negative ps = do
+  size ← numeral_of ps
+  end ← ended size.1
+  Ok (Some (record { is_negative = is_negative; size = size.0 }))
+
+-- a goal's constant: nothing, or a sign and a number
+unfoldable pub constant_of : List Piece → Result (Option Signed) ReadCause
+constant_of [] = Ok None
+constant_of (Mark Plus ∷ ps) = last_number false ps
+constant_of (Mark Minus ∷ ps) = last_number true ps
+constant_of _ = Err cause.Form
+
 -- var NAME KIND LOW HIGH
 unfoldable pub var_of : List Piece → Result Form ReadCause
 var_of ps = do
@@ -150,6 +186,30 @@ var_of ps = do
   end ← ended high.1
   Ok (Var name.0 kind.0 low.0 high.0)
 
+-- boolean NAME
+unfoldable pub boolean_of : List Piece → Result Form ReadCause
+boolean_of ps = do
+  name ← name_of ps
+  end ← ended name.1
+  Ok (Boolean name.0)
+
+-- a goal that is a number alone
+unfoldable pub number_goal_of : Sense → List Piece → Result Form ReadCause
+number_goal_of sense ps = do
+  constant ← signed_of ps
+  Ok (Goal sense [] (Some constant.0))
+
+-- a goal of terms, with a constant or without
+unfoldable pub terms_goal_of : Sense → List Piece → Result Form ReadCause
+terms_goal_of sense ps = do
+  sum ← summands_of ps
+  constant ← constant_of sum.1
+  Ok (Goal sense sum.0 constant)
+
+-- min GOAL or max GOAL
+abbrev pub goal_of : Sense → List Piece → Result Form ReadCause
+goal_of sense ps = if number_alone (sign_of ps).1 then number_goal_of sense ps else terms_goal_of sense ps
+
 -- row SUM REL SIGNED
 unfoldable pub row_of : List Piece → Result Form ReadCause
 row_of ps = do
@@ -159,14 +219,45 @@ row_of ps = do
   end ← ended right.1
   Ok (Row sum.0 rel.0 right.0)
 
+-- disjunction MODE
+unfoldable pub disjunction_of : List Piece → Result Form ReadCause
+disjunction_of ps = do
+  mode ← mode_of ps
+  end ← ended mode.1
+  Ok (Disjunction mode.0)
+
+-- disjunct NAME
+unfoldable pub disjunct_of : List Piece → Result Form ReadCause
+disjunct_of ps = do
+  name ← name_of ps
+  end ← ended name.1
+  Ok (Disjunct name.0)
+
+-- end
+unfoldable pub end_of : List Piece → Result Form ReadCause
+end_of ps = do
+  end ← ended ps
+  Ok End
+
 -- the form of a line after its first word
 abbrev pub form_after : List ℕ → List Piece → Result Form ReadCause
 form_after word ps =
     if bytes_eq word (codes "var") then var_of ps
+    else (if bytes_eq word (codes "boolean") then boolean_of ps
+    else (if bytes_eq word (codes "min") then goal_of Min ps
+    else (if bytes_eq word (codes "max") then goal_of Max ps
     else (if bytes_eq word (codes "row") then row_of ps
-    else Err cause.Form)
+    else (if bytes_eq word (codes "disjunction") then disjunction_of ps
+    else (if bytes_eq word (codes "disjunct") then disjunct_of ps
+    else (if bytes_eq word (codes "end") then end_of ps
+    else Err cause.Form)))))))
 
 -- the form of a line
 abbrev pub form_of : List Piece → Result Form ReadCause
 form_of (Word word ∷ ps) = form_after word ps
 form_of _ = Err cause.Form
+
+-- The line's first word is `logic`. Such lines are not read yet.
+abbrev pub is_logic : List Piece → Bool
+is_logic (Word word ∷ ps) = bytes_eq word (codes "logic")
+is_logic _ = false

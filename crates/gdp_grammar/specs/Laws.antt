@@ -4,7 +4,7 @@ use Rattle.std.specs.List.{list_all}
 use Rattle.block_tree.specs.Values.{ModelTree}
 use Rattle.gdp_grammar.specs.declared.cause.ReadCause.{ReadCause}
 use Rattle.gdp_grammar.specs.declared.cause.ReadCause.TheVariants as cause
-use Rattle.gdp_grammar.specs.Declaring.{is_blank, vars_from, rows_from, marks_of, own_rows}
+use Rattle.gdp_grammar.specs.Declaring.{is_blank, vars_from, booleans_from}
 use Rattle.gdp_grammar.specs.Lines.{lines_of, without_comment}
 use Rattle.gdp_grammar.specs.Reading.{is_header}
 use Rattle.gdp_grammar.specs.Spelling.{Spells, IsFirstBad}
@@ -27,8 +27,8 @@ NeverBoth = (text : List ℕ) (m : ModelTree) (line : ℕ) (cause : ReadCause) �
 abbrev pub OneFirstBad : Type 0
 OneFirstBad = (text : List ℕ) (line line' : ℕ) (cause cause' : ReadCause) → IsFirstBad text line cause → IsFirstBad text line' cause' → (line ≡ line') × (cause ≡ cause')
 
--- The text is blank lines, the header, and further lines. Those declare the model's variables, in order, each with the
--- number of its line as its mark; and the marks of the model's rows are the numbers of the lines that are rows.
+-- The text is blank lines, the header, and further lines. Those declare the model's variables, in order, and its
+-- Booleans, in order, each with the number of its line as its mark.
 pub record IsLaidOut (text : List ℕ) (m : ModelTree) : Type 0 where
   pub blank : List (List ℕ)
   pub header : List ℕ
@@ -37,15 +37,18 @@ pub record IsLaidOut (text : List ℕ) (m : ModelTree) : Type 0 where
   pub are_blank : list_all is_blank blank ≡ true
   pub is_first : is_header (words_of (without_comment header)) ≡ true
   pub vars : m.vars ≡ vars_from (length blank + 2) lines
-  pub rows : marks_of (own_rows m.root) ≡ rows_from (length blank + 2) lines
+  pub booleans : m.booleans ≡ booleans_from (length blank + 2) lines
 
 -- a text that spells a model is laid out so
 abbrev pub LaidOut : Type 0
 LaidOut = (text : List ℕ) (m : ModelTree) → Spells text m → IsLaidOut text m
 
--- A text of the header, one variable and one row spells their model. A number after `gdp` that is not spelled `1` is no
--- header, and neither is the want of any line.
+-- A text of the header, one variable and one row spells their model, and one of a goal and a choice the model that is
+-- nested so. A number after `gdp` that is not spelled `1` is no header, and neither is the want of any line; a line of
+-- logic is not read yet.
 pub record WorkedTexts : Type 0 where
   pub spelled : Spells worked.text worked.model
+  pub spelled_nested : Spells worked.nested worked.nested_model
   pub other_version : IsFirstBad worked.padded 1 cause.Header
   pub no_lines : IsFirstBad [] 1 cause.Header
+  pub not_read_yet : IsFirstBad worked.logic 1 cause.NotBuilt

@@ -8,7 +8,6 @@ pub mod Laws
 pub mod LineGrammars
 pub mod Lines
 pub mod Numerals
-pub mod Plain
 pub mod PointForms
 pub mod PointReading
 pub mod PointSpelling

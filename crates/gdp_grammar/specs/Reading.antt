@@ -1,22 +1,23 @@
 -- What a line adds to what the lines before it gave, or the cause against it.
-use Rattle.std.specs.Prelude.{ℕ, ◌^◌, pos, neg_ℤ, Bool, true, false, not, List, [], ◌∷◌, map, Option, None, Some, is_some, Result, Ok, Err, if◌then◌else◌, nat_le, ◌==◌, ◌||◌, codes, position, bytes_eq}
+use Rattle.std.specs.Prelude.{ℕ, pos, Bool, true, false, not, List, [], ◌∷◌, map, Option, None, Some, is_some, Result, Ok, Err, if◌then◌else◌, ◌==◌, ◌||◌, codes, position, bytes_eq}
 use Rattle.fractions.specs.Fraction.{Fraction}
 use Rattle.lp_rows.specs.declared.kinds.Kind.{Kind}
 use Rattle.lp_rows.specs.declared.kinds.Rel.{Rel}
+use Rattle.lp_rows.specs.declared.kinds.Sense.{Sense}
 use Rattle.block_tree.specs.declared.errors.BuildError.{BuildError}
 use Rattle.block_tree.specs.declared.errors.BuildError.TheVariants as refusal
 use Rattle.block_tree.specs.Building.{BuildingValue, new_building, is_at_root, is_taken, var_outcome, row_outcome, finish_outcome}
+use Rattle.block_tree.specs.Nesting.{boolean_outcome, goal_outcome, open_disjunction_outcome, open_disjunct_outcome, close_outcome}
 use Rattle.block_tree.specs.Values.{ModelTree}
 use Rattle.block_tree.specs.Variables.{VarValue}
 use Rattle.gdp_grammar.specs.declared.cause.ReadCause.{ReadCause}
 use Rattle.gdp_grammar.specs.declared.cause.ReadCause.TheVariants as cause
 use Rattle.gdp_grammar.specs.Causes.{◌>>=◌, refuse_if}
-use Rattle.gdp_grammar.specs.Forms.{Form, Var, Row, Signed, Summand, form_of}
+use Rattle.gdp_grammar.specs.Forms.{Form, Var, Boolean, Goal, Row, Disjunction, Disjunct, End, Signed, Summand, form_of, is_logic}
 use Rattle.gdp_grammar.specs.Lines.{without_comment}
-use Rattle.gdp_grammar.specs.Numerals.{Numeral, Whole, decimal}
-use Rattle.gdp_grammar.specs.Points.{are_words}
+use Rattle.gdp_grammar.specs.Numerals.{Numeral, signed, value_of}
 use Rattle.gdp_grammar.specs.Tokens.{Piece, tokens_of}
-use Rattle.gdp_grammar.specs.Words.{words_of}
+use Rattle.gdp_grammar.specs.Words.{words_of, are_words}
 
 -- the value, or the cause that there is none
 abbrev pub or_cause : {A : Type 0} → ReadCause → Option A → Result A ReadCause
@@ -25,21 +26,7 @@ or_cause cause (Some x) = Ok x
 
 -- a whole number with its sign
 abbrev pub signed_whole : Bool → ℕ → Fraction
-signed_whole is_negative size = record { num = if is_negative then neg_ℤ (pos size) else pos size; den = pos 1 }
-
--- the size, if it is in range
-abbrev pub in_range : ℕ → Option ℕ
-in_range size = if nat_le size (10 ^ 15) then Some size else None
-
--- the whole number, if there is one
-abbrev pub whole_value : Bool → Option ℕ → Option Fraction
-whole_value is_negative None = None
-whole_value is_negative (Some size) = Some (signed_whole is_negative size)
-
--- The value of a number, if it is in range. Fractions and decimals are not read yet, so none is in range.
-abbrev pub value_of : Bool → Numeral → Option Fraction
-value_of is_negative (Whole digits) = whole_value is_negative (in_range (decimal 0 digits))
-value_of is_negative _ = None
+signed_whole is_negative size = record { num = signed is_negative size; den = pos 1 }
 
 -- an end of a bound
 abbrev pub end_of : Option Signed → Result (Option Fraction) ReadCause
@@ -119,20 +106,43 @@ valued_terms (t ∷ ts) = do
   others ← valued_terms ts
   Ok ((t.0, coefficient) ∷ others)
 
+-- the terms of a sum: no variable stands twice in it, each name is known, and each number is in range
+unfoldable pub terms_of : List VarValue → List Summand → Result (List (ℕ × Fraction)) ReadCause
+terms_of vars sum = do
+  twice ← refuse_if (has_twice (named vars sum)) cause.NameTwice
+  known ← known_terms vars sum
+  valued_terms known
+
+-- the constant of a goal: 0 where none is written
+abbrev pub constant_value : Option Signed → Option Fraction
+constant_value None = Some (signed_whole false 0)
+constant_value (Some s) = value_of s.is_negative s.size
+
+-- the goal is set
+unfoldable pub with_goal : BuildingValue → ℕ → Sense → List Summand → Option Signed → Result BuildingValue ReadCause
+with_goal b line sense sum constant = do
+  place ← refuse_if (not (is_at_root b) || is_some b.goal) cause.Form
+  terms ← terms_of b.vars sum
+  constant ← or_cause cause.Number (constant_value constant)
+  after_call (goal_outcome sense terms constant line b)
+
 -- a row is appended
 unfoldable pub with_row : BuildingValue → ℕ → List Summand → Rel → Signed → Result BuildingValue ReadCause
 with_row b line sum rel right = do
   place ← refuse_if (is_some b.opened) cause.Form
-  twice ← refuse_if (has_twice (named b.vars sum)) cause.NameTwice
-  known ← known_terms b.vars sum
-  terms ← valued_terms known
+  terms ← terms_of b.vars sum
   right ← or_cause cause.Number (value_of right.is_negative right.size)
   after_call (row_outcome terms rel right line b)
 
--- what a line of this form adds
+-- what a line of this form adds; the line `end` closes the innermost that is open
 abbrev pub with_form : BuildingValue → ℕ → Form → Result BuildingValue ReadCause
 with_form b line (Var name kind low high) = with_var b line name kind low high
+with_form b line (Boolean name) = after_call (boolean_outcome name line b)
+with_form b line (Goal sense sum constant) = with_goal b line sense sum constant
 with_form b line (Row sum rel right) = with_row b line sum rel right
+with_form b line (Disjunction mode) = after_call (open_disjunction_outcome mode line b)
+with_form b line (Disjunct name) = after_call (open_disjunct_outcome name line b)
+with_form b line End = after_call (close_outcome b)
 
 -- what the lines so far gave: whether the header was among them, and what they built
 pub record Taken : Type 0 where
@@ -162,11 +172,15 @@ with_tokens t line (p ∷ ps) = do
   building ← with_form t.building line form
   Ok (record t { building = building })
 
+-- what a line adds after the header, or before it
+abbrev pub with_content : Taken → ℕ → List ℕ → Result Taken ReadCause
+with_content t line content = if t.headed then with_tokens t line (tokens_of content) else with_header t (words_of content)
+
 -- what a line adds after the lines before it
 unfoldable pub with_line : Taken → ℕ → List ℕ → Result Taken ReadCause
-with_line t line bytes =
-    if t.headed then with_tokens t line (tokens_of (without_comment bytes))
-    else with_header t (words_of (without_comment bytes))
+with_line t line bytes = do
+  built ← refuse_if (is_logic (tokens_of (without_comment bytes))) cause.NotBuilt
+  with_content t line (without_comment bytes)
 
 -- the model, or the cause of the builder's refusal
 abbrev pub finished : Result ModelTree BuildError → Result ModelTree ReadCause

@@ -1,8 +1,10 @@
 -- Worked texts: what the laws compute.
 use Rattle.std.specs.Prelude.{ℕ, pos, List, [], ◌∷◌, ◌++◌, Some, codes}
-use Rattle.lp_rows.specs.declared.kinds.Kind.TheVariants.{Real}
-use Rattle.lp_rows.specs.declared.kinds.Rel.TheVariants.{AtMost}
-use Rattle.block_tree.specs.Tree.{block, no_disjunctions}
+use Rattle.lp_rows.specs.declared.kinds.Kind.TheVariants.{Real, Int}
+use Rattle.lp_rows.specs.declared.kinds.Rel.TheVariants.{AtMost, AtLeast}
+use Rattle.lp_rows.specs.declared.kinds.Sense.TheVariants.{Min}
+use Rattle.block_tree.specs.declared.tree.Mode.TheVariants.{Xor}
+use Rattle.block_tree.specs.Tree.{block, no_disjunctions, disjunction, disjunct, no_disjuncts}
 use Rattle.block_tree.specs.Values.{ModelTree, no_goal}
 
 -- the three lines `gdp 1`, `var x real 0 10` and `row 2 x <= 7`
@@ -21,3 +23,26 @@ model = record {
 -- the line `gdp 01`
 abbrev pub padded : List ℕ
 padded = codes "gdp 01" ++ 10 ∷ []
+
+-- an integer variable, a Boolean, a goal, and a choice of two blocks
+abbrev pub nested : List ℕ
+nested =
+    codes "gdp 1" ++ 10 ∷ codes "var n int 0 9" ++ 10 ∷ codes "boolean z" ++ 10 ∷ codes "min 1/2 n + 3" ++ 10
+    ∷ codes "disjunction xor # one" ++ 10 ∷ codes "disjunct a" ++ 10 ∷ codes "row n >= 2.5" ++ 10 ∷ codes "end" ++ 10
+    ∷ codes "disjunct b" ++ 10 ∷ codes "row n <= 1" ++ 10 ∷ codes "end" ++ 10 ∷ codes "end" ++ 10 ∷ []
+
+-- its model: the goal is (n + 6) / 2, and the row of a is 2 n >= 5
+abbrev pub nested_model : ModelTree
+nested_model = record {
+  vars = (codes "n", Int, record { low = Some (record { num = pos 0; den = pos 1 }); high = Some (record { num = pos 9; den = pos 1 }) }, 2) ∷ [];
+  booleans = (codes "z", 3) ∷ (codes "a", 6) ∷ (codes "b", 9) ∷ [];
+  goal = record { sense = Min; terms = (0, pos 1) ∷ []; constant = pos 6; scale = pos 2; mark = 4 };
+  root = block (record { rows = [] }) (disjunction (record { mode = Xor; mark = 5 })
+      (disjunct (record { indicator = 1; mark = 6 }) (block (record { rows = (record { terms = (0, pos 2) ∷ []; rel = AtLeast; right = pos 5 }, 7) ∷ [] }) no_disjunctions)
+      (disjunct (record { indicator = 2; mark = 9 }) (block (record { rows = (record { terms = (0, pos 1) ∷ []; rel = AtMost; right = pos 1 }, 10) ∷ [] }) no_disjunctions)
+      no_disjuncts)) no_disjunctions);
+}
+
+-- a line that is not read yet, before any header
+abbrev pub logic : List ℕ
+logic = codes "logic p" ++ 10 ∷ []
