@@ -11,7 +11,7 @@ use Rattle.int_linear.specs.Sums.{at}
 use Rattle.simplex_rows.specs.Width.{IsFactors}
 use Rattle.simplex_rows.proofs.Factors.{factors_same}
 use Rattle.simplex_rows.proofs.Directions.{basis_differs}
-use Rattle.exact_simplex.specs.Table.{Table, IsSound, entry, right_side, basic, width}
+use Rattle.exact_simplex.specs.Table.{Table, IsSound, entry, right_side, basic, right, width}
 use Rattle.exact_simplex.specs.Values.{own, IsCommon, IsWideCommon, AreNumerators, IsNextCommon, IsNextWide, DividesOver, IsPointOf, IsPointRefusal}
 use Rattle.exact_simplex.specs.Bland.{table_of}
 use Rattle.lp_rows.specs.Points.{PointValue}
@@ -19,27 +19,27 @@ use Rattle.lp_rows.specs.declared.columns.WideAt.TheVariants.{Entry, Over, Ray, 
 use Rattle.exact_simplex.specs.declared.moves.ReadOut.{ReadOut}
 use Rattle.exact_simplex.specs.declared.moves.ReadOut.TheVariants.{Memory, Wide}
 
-pub common_none : (t : Table) → IsCommon t 0 (pos 1)
-common_none t = record { positive = omega (arith, ints); multiple = λ i den num l x. absurd (omega arith); least = λ m h. one-dvd m }
+pub common_none : (t : Table) (column : ℕ) → IsCommon t column 0 (pos 1)
+common_none t column = record { positive = omega (arith, ints); multiple = λ i den num l x. absurd (omega arith); least = λ m h. one-dvd m }
 
-pub common_more : (t : Table) (i : ℕ) (over next : ℤ) → IsCommon t i over → IsNextCommon over (own t i) (right_side t i) next → IsCommon t (i + 1) next
-common_more t i over next c n = record {
+pub common_more : (t : Table) (column i : ℕ) (over next : ℤ) → IsCommon t column i over → IsNextCommon over (own t i) (entry t i column) next → IsCommon t column (i + 1) next
+common_more t column i over next c n = record {
   positive = n.positive;
   multiple = λ k den num l x. elim (cases_eq k i) as (λ _. unsigned_abs den ∣ unsigned_abs next) [
     | inl e ↦
-        let y : IsFactors (own t i) (right_side t i) den num = subst (λ j. IsFactors (own t j) (right_side t j) den num) e x in
-        let same : n.den ≡ den = (factors_same (own t i) (right_side t i) n.den n.num den num n.value y).0 in
+        let y : IsFactors (own t i) (entry t i column) den num = subst (λ j. IsFactors (own t j) (entry t j column) den num) e x in
+        let same : n.den ≡ den = (factors_same (own t i) (entry t i column) n.den n.num den num n.value y).0 in
         subst (λ z. unsigned_abs z ∣ unsigned_abs next) same n.common.second
     | inr e ↦ dvd_trans (unsigned_abs den) (c.multiple k den num (omega arith) x) n.common.first
   ];
   least = λ m h. n.common.least m (c.least m (λ k den num l x. h k den num (omega arith) x)) (h i n.den n.num (omega arith) n.value);
 }
 
-pub common_wide : (t : Table) (i : ℕ) (over : ℤ) → i < t.height → IsCommon t i over → IsNextWide over (own t i) (right_side t i) → IsWideCommon t i
-common_wide t i over l c n = record { within = l; over = over; before = c; den = n.den; num = n.num; value = n.value; multiple = n.multiple; wide = n.wide; common = n.common }
+pub common_wide : (t : Table) (column i : ℕ) (over : ℤ) → i < t.height → IsCommon t column i over → IsNextWide over (own t i) (entry t i column) → IsWideCommon t column i
+common_wide t column i over l c n = record { within = l; over = over; before = c; den = n.den; num = n.num; value = n.value; multiple = n.multiple; wide = n.wide; common = n.common }
 
-pub common_divides : (t : Table) (i n : ℕ) (over : ℤ) → i < n → IsCommon t n over → DividesOver (own t i) (right_side t i) over
-common_divides t i n over l c = record { each = λ den num x. c.multiple i den num l x }
+pub common_divides : (t : Table) (column i n : ℕ) (over : ℤ) → i < n → IsCommon t column n over → DividesOver (own t i) (entry t i column) over
+common_divides t column i n over l c = record { each = λ den num x. c.multiple i den num l x }
 
 -- a numerator is written
 pub numerators_more : (t : Table) (s : IsSound t) (i : ℕ) (over value : ℤ) (nums : List ℤ) → i < t.height → basic t i < t.columns → AreNumerators t i over nums → value *ℤ own t i ≡ right_side t i *ℤ over → AreNumerators t (i + 1) over (set nums (basic t i) value)
@@ -69,19 +69,22 @@ numerators_over t i over nums b a = record {
 }
 
 -- whether the artificial has left does not matter to the values
-common_moves : (t : Table) (n : ℕ) (over : ℤ) → IsCommon (table_of t.columns t.height t.rows t.basis) n over → IsCommon t n over
-common_moves t n over c = record { positive = c.positive; multiple = c.multiple; least = c.least }
+pub common_moves : (t : Table) (column n : ℕ) (over : ℤ) → IsCommon (table_of t.columns t.height t.rows t.basis) column n over → IsCommon t column n over
+common_moves t column n over c = record { positive = c.positive; multiple = c.multiple; least = c.least }
+
+pub wide_common_moves : (t : Table) (column row : ℕ) → IsWideCommon (table_of t.columns t.height t.rows t.basis) column row → IsWideCommon t column row
+wide_common_moves t column row w = record { within = w.within; over = w.over; before = common_moves t column row w.over w.before; den = w.den; num = w.num; value = w.value; multiple = w.multiple; wide = w.wide; common = w.common }
 
 numerators_move : (t : Table) (n : ℕ) (over : ℤ) (nums : List ℤ) → AreNumerators (table_of t.columns t.height t.rows t.basis) n over nums → AreNumerators t n over nums
 numerators_move t n over nums a = record { size = a.size; value = a.value; others = a.others }
 
 pub point_moves : (t : Table) (p : PointValue) → IsPointOf (table_of t.columns t.height t.rows t.basis) p → IsPointOf t p
-point_moves t p h = record { over = common_moves t t.height p.over h.over; nums = numerators_move t t.height p.over p.nums h.nums }
+point_moves t p h = record { over = common_moves t (right t) t.height p.over h.over; nums = numerators_move t t.height p.over p.nums h.nums }
 
 pub refusal_moves : (t : Table) (r : ReadOut) → IsPointRefusal (table_of t.columns t.height t.rows t.basis) r → IsPointRefusal t r
 refusal_moves t Memory h = tt
-refusal_moves t (Wide (Over row)) (inl w) = inl (record { within = w.within; over = w.over; before = common_moves t row w.over w.before; den = w.den; num = w.num; value = w.value; multiple = w.multiple; wide = w.wide; common = w.common })
-refusal_moves t (Wide (Over row)) (inr w) = inr (w.0, common_moves t t.height w.0 w.1, record { within = w.2.within; structural = w.2.structural; nums = w.2.nums; before = numerators_move t row w.0 w.2.nums w.2.before; value = w.2.value; is = w.2.is; wide = w.2.wide })
+refusal_moves t (Wide (Over row)) (inl w) = inl (wide_common_moves t (right t) row w)
+refusal_moves t (Wide (Over row)) (inr w) = inr (w.0, common_moves t (right t) t.height w.0 w.1, record { within = w.2.within; structural = w.2.structural; nums = w.2.nums; before = numerators_move t row w.0 w.2.nums w.2.before; value = w.2.value; is = w.2.is; wide = w.2.wide })
 refusal_moves t (Wide (Entry row column)) h = absurd h
 refusal_moves t (Wide (Ray row)) h = absurd h
 refusal_moves t (Wide (Leaf row column)) h = absurd h

@@ -13,3 +13,4 @@ pub mod Fractions
 pub mod Solutions
 pub mod Commons
 pub mod Attains
+pub mod Growths

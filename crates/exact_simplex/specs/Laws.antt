@@ -1,9 +1,9 @@
 -- What the directions of a tableau are for its standard form: its point and its ray.
-use Rattle.std.specs.Prelude.{◌≡◌, ◌<◌, ◌+◌, ℕ, ℤ, pos, ◌*ℤ◌, ◌≤ℤ◌, ◌<ℤ◌, neg_ℤ, All}
+use Rattle.std.specs.Prelude.{◌≡◌, ◌<◌, ◌+◌, ◌⊎◌, ℕ, ℤ, pos, ◌*ℤ◌, ◌≤ℤ◌, ◌<ℤ◌, neg_ℤ, All}
 use Rattle.int_linear.specs.Terms.{dot}
 use Rattle.simplex_rows.specs.Tableau.{IsDirection}
 use Rattle.lp_frame.specs.Standard.{Standard, IsStandardPoint}
-use Rattle.exact_simplex.specs.declared.moves.Move.TheVariants.{Unbounded}
+use Rattle.exact_simplex.specs.declared.moves.Move.TheVariants.{Optimal, Unbounded}
 use Rattle.exact_simplex.specs.Table.{Table, IsSound, entry, right_side, basic, artificial, right, scale, width}
 use Rattle.exact_simplex.specs.Bland.{bland_move, row_of}
 use Rattle.exact_simplex.specs.Equations.{IsTableauOf}
@@ -18,6 +18,10 @@ HasNoArtificial t = row_of t (artificial t) ≡ t.height
 -- no right side is negative
 pub record IsFeasible (t : Table) : Type 0 where
   pub each : (i : ℕ) → i < t.height → pos 0 ≤ℤ right_side t i
+
+-- Bland's rule names no exchange, and there is a point: the tableau is optimal, or unbounded along a column
+abbrev pub IsAtPoint : Table → Type 0
+IsAtPoint t = (bland_move t ≡ Optimal) ⊎ ((enter : ℕ) × (bland_move t ≡ Unbounded enter))
 
 -- v is the basic solution over this denominator: the direction along the right side with minus the denominator
 abbrev pub IsBasicSolution : Table → ℤ → (ℕ → ℤ) → Type 0
@@ -43,7 +47,7 @@ BasicSolutionIsPoint = (form : Standard) (t : Table) (over : ℤ) (v : ℕ → �
 
 -- where the form is unbounded along a column, each direction along it is a ray of the form
 abbrev pub UnboundedHasRay : Type 0
-UnboundedHasRay = (form : Standard) (t : Table) (enter : ℕ) (step : ℤ) (v : ℕ → ℤ) → IsSound t → IsTableauOf form t → HasNoArtificial t → bland_move t ≡ Unbounded enter → pos 0 <ℤ step → IsEnteringDirection t enter step v → IsFormRay form v
+UnboundedHasRay = (form : Standard) (t : Table) (enter : ℕ) (step : ℤ) (v : ℕ → ℤ) → IsSound t → IsTableauOf form t → bland_move t ≡ Unbounded enter → pos 0 <ℤ step → IsEnteringDirection t enter step v → IsFormRay form v
 
 -- the point of the basis of a feasible tableau attains the level
 abbrev pub PointAttainsLevel : Type 0

@@ -9,26 +9,27 @@ use Rattle.lp_rows.specs.Points.{PointValue}
 use Rattle.lp_rows.specs.declared.columns.WideAt.TheVariants.{Over}
 use Rattle.exact_simplex.specs.declared.moves.ReadOut.{ReadOut}
 use Rattle.exact_simplex.specs.declared.moves.ReadOut.TheVariants.{Memory, Wide}
-use Rattle.exact_simplex.specs.Table.{Table, entry, right_side, basic}
+use Rattle.exact_simplex.specs.Table.{Table, entry, right_side, basic, right}
 
 -- a row's entry in its own basic column
 abbrev pub own : Table → ℕ → ℤ
 own t i = entry t i (basic t i)
 
--- over is the least common multiple of the reduced denominators of the basic values of the rows below n
-pub record IsCommon (t : Table) (n : ℕ) (over : ℤ) : Type 0 where
+-- over is the least common multiple of the reduced denominators of the column's numbers over the own entries, in
+-- the rows below n
+pub record IsCommon (t : Table) (column n : ℕ) (over : ℤ) : Type 0 where
   pub positive : pos 0 <ℤ over
-  pub multiple : (i : ℕ) (den num : ℤ) → i < n → IsFactors (own t i) (right_side t i) den num → unsigned_abs den ∣ unsigned_abs over
-  pub least : (m : ℕ) → ((i : ℕ) (den num : ℤ) → i < n → IsFactors (own t i) (right_side t i) den num → unsigned_abs den ∣ m) → unsigned_abs over ∣ m
+  pub multiple : (i : ℕ) (den num : ℤ) → i < n → IsFactors (own t i) (entry t i column) den num → unsigned_abs den ∣ unsigned_abs over
+  pub least : (m : ℕ) → ((i : ℕ) (den num : ℤ) → i < n → IsFactors (own t i) (entry t i column) den num → unsigned_abs den ∣ m) → unsigned_abs over ∣ m
 
 -- with this row's denominator that multiple leaves 128 bits, and not before
-pub record IsWideCommon (t : Table) (row : ℕ) : Type 0 where
+pub record IsWideCommon (t : Table) (column row : ℕ) : Type 0 where
   pub within : row < t.height
   pub over : ℤ
-  pub before : IsCommon t row over
+  pub before : IsCommon t column row over
   pub den : ℤ
   pub num : ℤ
-  pub value : IsFactors (own t row) (right_side t row) den num
+  pub value : IsFactors (own t row) (entry t row column) den num
   pub multiple : ℕ
   pub wide : 2 ^ 127 ≤ multiple
   pub common : IsLcm (unsigned_abs over) (unsigned_abs den) multiple
@@ -51,7 +52,7 @@ pub record IsWideNumerator (t : Table) (over : ℤ) (row : ℕ) : Type 0 where
 
 -- the first number that leaves 128 bits when the point is read is formed at this row
 abbrev pub IsWidePoint : Table → ℕ → Type 0
-IsWidePoint t row = IsWideCommon t row ⊎ ((over : ℤ) × IsCommon t t.height over × IsWideNumerator t over row)
+IsWidePoint t row = IsWideCommon t (right t) row ⊎ ((over : ℤ) × IsCommon t (right t) t.height over × IsWideNumerator t over row)
 
 -- the least common multiple of over and the reduced denominator of a value
 pub record IsNextCommon (over own_entry side next : ℤ) : Type 0 where
@@ -76,7 +77,7 @@ pub record DividesOver (own_entry side over : ℤ) : Type 0 where
 
 -- the point of the basis: the least common denominator, and the structural columns' numerators over it
 pub record IsPointOf (t : Table) (point : PointValue) : Type 0 where
-  pub over : IsCommon t t.height point.over
+  pub over : IsCommon t (right t) t.height point.over
   pub nums : AreNumerators t t.height point.over point.nums
 
 -- why the point is not read: want of memory, or the first number that leaves 128 bits is formed at this row

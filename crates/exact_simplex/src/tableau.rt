@@ -1,6 +1,7 @@
 //! The tableau, and its exchange.
 
 ghost use Rattle.std.specs.Prelude.{◌≡◌, ◌||◌, ℕ, ℤ, ◌+◌, ◌≤◌, OnOk, OnErr, IfOk, IfErr, IfSome, IfNone};
+ghost use Rattle.lp_frame.specs.Standard.{Standard};
 ghost use Rattle.exact_simplex.specs.Table.{IsTableauFor};
 ghost use Rattle.exact_simplex.specs.Bland.{bland_move};
 ghost use Rattle.exact_simplex.specs.Equations.{IsFirstTable, IsTableauOf};
@@ -105,6 +106,7 @@ impl Tableau {
         requires { steps.old ≤ log.old.spare }
         ensures moves { HasRun self.old self.new steps.old steps.new log.old.events log.new.events }
         ensures tableau { (equation : ℕ → ℕ → ℤ) → IsTableauFor equation self.old → IsTableauFor equation self.new }
+        ensures form { (form : Standard) → IsTableauOf form self.old → IsTableauOf form self.new }
         ensures ended { HasEnded self.new steps.new result }
         ensures spare { log.new.spare + steps.old ≡ log.old.spare + steps.new }
     {

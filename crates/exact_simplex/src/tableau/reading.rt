@@ -9,16 +9,19 @@ ghost use Rattle.lp_frame.specs.Standard.{Standard};
 ghost use Rattle.exact_simplex.specs.Bland.{bland_move};
 ghost use Rattle.exact_simplex.specs.Equations.{IsTableauOf};
 ghost use Rattle.exact_simplex.specs.ReadOut.{entries_of, multipliers_of, BoundsForm, RefutesForm};
+ghost use Rattle.exact_simplex.specs.Laws.{AttainsLevel, IsAtPoint, IsFormRay};
+ghost use Rattle.exact_simplex.specs.Rays.{IsRayOf, IsRayRefusal};
 ghost use Rattle.exact_simplex.specs.Values.{IsPointOf, IsPointRefusal};
 ghost use Rattle.exact_simplex.specs.Table.{entry, right_side, scale as scale_column};
 
 use crate::choosing::{find_row, number};
 use crate::moves::{Move, ReadOut};
+use crate::ray::ray_of;
 use crate::tableau::Tableau;
 use crate::values::point_of;
 use fractions::{Frac, Memory};
 use lp_frame::Mults;
-use lp_rows::Point;
+use lp_rows::{Nums, Point};
 use simplex_rows::Row;
 use std::alloc::Global;
 
@@ -43,12 +46,33 @@ impl Tableau {
     }
 
     /// The point of the basis: the structural columns over the least common denominator of the values of all rows,
-    /// slacks among them. `Over` names the row at which the first number that leaves 128 bits is formed.
+    /// slacks among them. At an optimal or an unbounded tableau it is a point of the standard form and attains the
+    /// level. `Over` names the row at which the first number that leaves 128 bits is formed.
     pub fn point(&self, alloc: Global) -> Result<Point, ReadOut>
         ensures point { IfOk result (IsPointOf self.now) }
+        ensures attains { IfOk result (λ point. (form : Standard) → IsTableauOf form self.now → IsAtPoint self.now → AttainsLevel form self.now point.over (at point.nums)) }
         ensures refused { IfErr result (IsPointRefusal self.now) }
     {
         point_of(alloc, &self.rows, &self.basis, self.columns, self.height)
+    }
+
+    /// The ray along the entering column of an unbounded tableau: the structural columns' growths, where the entering
+    /// column grows by the least step that makes those of all rows whole, slacks among them. It keeps every row of the
+    /// standard form and betters the goal. `Ray` names the row at which the first number that leaves 128 bits is formed.
+    pub fn ray(&self, alloc: Global, enter: u32) -> Result<Nums, ReadOut>
+        requires { bland_move self.now ≡ Move.Unbounded enter }
+        ensures ray { IfOk result (IsRayOf self.now enter) }
+        ensures keeps { IfOk result (λ nums. (form : Standard) → IsTableauOf form self.now → IsFormRay form (at nums)) }
+        ensures refused { IfErr result (IsRayRefusal self.now enter) }
+    {
+        ray_of(
+            alloc,
+            &self.rows,
+            &self.basis,
+            self.columns,
+            self.height,
+            enter as usize,
+        )
     }
 
     /// The multipliers of the rows, without zeros, rows ascending. At an optimal tableau they bound the goal by its

@@ -1,15 +1,15 @@
 use Rattle.std.proofs.Common.{◌≡◌, ◌+◌, ◌<◌, ◌*ℤ◌, ℕ, ℤ, set, slice_index_or, FitsSigned, rules, ap, sym, ◌∙◌, subst}
 use Rattle.std.specs.Int.{w128}
 use Rattle.std.proofs.lemmas.Int.{to_z-of_z}
-use Rattle.exact_simplex.specs.Table.{Table, right_side}
+use Rattle.exact_simplex.specs.Table.{Table, right_side, right}
 use Rattle.exact_simplex.specs.Bland.{table_of}
 use Rattle.exact_simplex.specs.Values.{own, IsCommon, AreNumerators, DividesOver}
 use Rattle.exact_simplex.proofs.Commons.{common_divides, numerators_more, numerators_over}
 use Rattle.exact_simplex.proofs.values.write_numerators.Goals as goal
 use Rattle.exact_simplex.proofs.values.write_numerators.Goals.{then-column-columns+in-Some, else-column-columns}
 
-divides_at : (t : Table) (i : ℕ) (over a b : ℤ) → a ≡ own t i → b ≡ right_side t i → i < t.height → IsCommon t t.height over → DividesOver a b over
-divides_at t i over a b e f l c = subst (λ z. DividesOver z b over) (sym e) (subst (λ z. DividesOver (own t i) z over) (sym f) (common_divides t i t.height over l c))
+divides_at : (t : Table) (i : ℕ) (over a b : ℤ) → a ≡ own t i → b ≡ right_side t i → i < t.height → IsCommon t (right t) t.height over → DividesOver a b over
+divides_at t i over a b e f l c = subst (λ z. DividesOver z b over) (sym e) (subst (λ z. DividesOver (own t i) z over) (sym f) (common_divides t (right t) i t.height over l c))
 
 value_at : (t : Table) (i : ℕ) (over a b value : ℤ) → a ≡ own t i → b ≡ right_side t i → value *ℤ a ≡ b *ℤ over → value *ℤ own t i ≡ right_side t i *ℤ over
 value_at t i over a b value e f h = ap (λ z. value *ℤ z) (sym e) ∙ h ∙ ap (λ z. z *ℤ over) f
