@@ -4,7 +4,7 @@ import dataclasses
 import os
 
 from drawn_texts import drawn_texts
-from full_model import LIMIT, full_model, point
+from full_model import LAST, LIMIT, full_model, point
 from reference import answer
 
 FULL = "a full device"
@@ -229,6 +229,7 @@ def refusals():
         ("a disjunction without a disjunct", x + b"disjunction xor\nend\n", 4, "Missing"),
         ("an open disjunction", x + b"disjunction xor\n", 4, "Unclosed"),
         ("an open disjunct", xor, 5, "Unclosed"),
+        ("a model without its last line", NESTED[:-4], 16, "Unclosed"),
         ("open, and no variable", b"gdp 1\ndisjunction xor\n", 3, "Unclosed"),
         ("nine nested disjunctions", nested, 20, "Nesting"),
         ("a name twice before nesting", nested.replace(b"d8", b"x"), 20, "NameTwice"),
@@ -465,7 +466,8 @@ def sizes():
         Case("size: 9 MB to format", ["format", "M"], {"M": long}, 2, err=b"M: too long\n", is_long=True),
         row("blanks in a line to the limit", MODEL[:-2] + b" " * (LIMIT - len(MODEL)) + MODEL[-2:], at(3), 0, b"holds\n"),
         row("the full model holds", full, holding, 0, b"holds\n"),
-        row("the full model fails at its last row", full, failing, 1, b"fails at line 1501\n"),
+        row("the full model fails at its last row", full, failing, 1, b"fails at line %d\n" % LAST),
+        Case("size: the full model, formatted", ["format", "M"], {"M": full}, 0, full.replace(b"disjunction", b"min 0\ndisjunction", 1), is_long=True),
         row("the full model and one newline", full + b"\n", holding, 2, err=b"M: too long\n"),
     ]
 

@@ -1,8 +1,9 @@
 #!/usr/bin/env python3
-"""The largest model that the limits let a planner write: 500 variables, 1,000 rows with a term of each, 8,388,608 bytes.
+"""The largest model that the limits let a planner write: 500 variables, 200 indicators nested eight deep, 1,000 rows with a
+term of each variable, 8,388,608 bytes.
 
 `full_model.py FOLDER` writes `full.gdp`, `full.point`, at which its last row holds with nothing to spare, and
-`full-fails.point`, at which the last row, on line 1501, is one short.
+`full-fails.point`, at which the last row, on line `LAST`, is one short.
 """
 
 import pathlib
@@ -12,6 +13,11 @@ import sys
 LIMIT = 8_388_608
 VARIABLES = 500
 ROWS = 1_000
+CHAINS = 25
+DEPTH = 8
+# Of each block the lines that open it, its rows, and the lines that close it.
+PER_BLOCK = ROWS // (CHAINS * DEPTH)
+LAST = 1 + VARIABLES + CHAINS * DEPTH * (2 + PER_BLOCK) + (CHAINS - 1) * DEPTH * 2
 
 
 def full_model():
@@ -20,6 +26,8 @@ def full_model():
     names = [f"f{j:03}" for j in range(VARIABLES)]
     values = [draw.randint(1, 99) for _ in names]
     head = "gdp 1\n" + "".join(f"var {name} real 0 100\n" for name in names)
+    opening = [f"disjunction or\ndisjunct b{k:03}\n" for k in range(CHAINS * DEPTH)]
+    closing = "end\nend\n"
 
     def row(digits, relation, right):
         numbers = [draw.randint(10 ** (n - 1), 10**n - 1) for n in digits]
@@ -30,17 +38,24 @@ def full_model():
     last = row([8] * VARIABLES, ">=", lambda numbers: sum(c * x for c, x in zip(numbers, values)))
     wide = 10**15 - 1
     least = len(row([8] * VARIABLES, "<=", lambda numbers: wide))
-    spare = LIMIT - len(head) - len(last) - (ROWS - 1) * least
+    blocks = sum(map(len, opening)) + len(closing) * CHAINS * DEPTH
+    spare = LIMIT - len(head) - blocks - len(last) - (ROWS - 1) * least
     rows = []
     for i in range(ROWS - 1):
         longer = min(max(spare - i * VARIABLES, 0), VARIABLES)
         rows.append(row([9] * longer + [8] * (VARIABLES - longer), "<=", lambda numbers: wide))
-    return (head + "".join(rows) + last).encode(), point(names, values), point(names, [values[0] - 1] + values[1:])
+    rows.append(last)
+    text = [head]
+    for k, begin in enumerate(opening):
+        text += [begin, *rows[k * PER_BLOCK : (k + 1) * PER_BLOCK]]
+        text += [closing * DEPTH] if (k + 1) % DEPTH == 0 else []
+    true = [f"b{k:03}" for k in range(CHAINS * DEPTH)]
+    return "".join(text).encode(), point(names, values, true), point(names, [values[0] - 1] + values[1:], true)
 
 
-def point(names, values):
-    """Gives the text of the point with these whole numbers."""
-    lines = "".join(f"val {name} {value}\n" for name, value in zip(names, values))
+def point(names, values, true=()):
+    """Gives the text of the point with these whole numbers, and with these indicators true."""
+    lines = "".join(f"val {name} {value}\n" for name, value in zip(names, values)) + "".join(f"on {name}\n" for name in true)
     return f"gdp-point 1\nover 1\n{lines}end\n".encode()
 
 

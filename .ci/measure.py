@@ -27,7 +27,8 @@ def measured(command, folder):
     seconds = time.perf_counter() - begun
     with os.fdopen(read, "rb") as pipe:
         out = pipe.read()
-    answer = f"`{out.decode().strip()}`, status {os.waitstatus_to_exitcode(status)}"
+    said = f"`{out.decode().strip()}`" if len(out) < 80 else f"{len(out):,} bytes"
+    answer = f"{said}, status {os.waitstatus_to_exitcode(status)}"
     return seconds, usage.ru_utime + usage.ru_stime, usage.ru_maxrss * 1024, answer
 
 
@@ -41,6 +42,7 @@ def main(named):
             "`wc full.gdp`": ["wc", "full.gdp"],
             "`gdp test full.gdp full.point`": [program, "test", "full.gdp", "full.point"],
             "`gdp test full.gdp full-fails.point`": [program, "test", "full.gdp", "full-fails.point"],
+            "`gdp format full.gdp`": [program, "format", "full.gdp"],
         }
         runs = {name: [] for name in commands}
         for _ in range(TURNS):
@@ -51,7 +53,7 @@ def main(named):
         for name, some in runs.items():
             seconds, busy, memory = min(run[0] for run in some), min(run[1] for run in some), max(run[2] for run in some)
             told = f"{memory / 2**20:.1f} MiB | {memory / size:.1f} | {some[0][3]}"
-            print(f"| {name} | {seconds:.3f} | {busy:.3f} | {told if 'gdp test' in name else '| |'} |")
+            print(f"| {name} | {seconds:.3f} | {busy:.3f} | {told if name.startswith('`gdp') else '| |'} |")
 
 
 if __name__ == "__main__":

@@ -44,8 +44,8 @@ def words_of(line):
 
 def tokens_of(line):
     """The tokens as pairs of kind and text; a byte that begins none is a stray one."""
-    at, tokens = 0, []
-    while words_of(line[at:]):
+    line, at, tokens = line.rstrip(b" \t"), 0, []
+    while at < len(line):
         found = TOKEN.match(line, at)
         if not found:
             return tokens + [("stray", "")]
@@ -58,14 +58,15 @@ class Tokens:
     """Takes a line's tokens one after the other; what doesn't fit is Form."""
 
     def __init__(self, tokens):
-        self.left = tokens
+        self.tokens, self.at = tokens, 0
 
     def peek(self, ahead=0):
-        return self.left[ahead] if ahead < len(self.left) else (None, None)
+        return self.tokens[self.at + ahead] if self.at + ahead < len(self.tokens) else (None, None)
 
     def take(self, kind, *texts):
         refuse_if(self.peek()[0] != kind or texts and self.peek()[1] not in texts, "Form")
-        return self.left.pop(0)[1]
+        self.at += 1
+        return self.tokens[self.at - 1][1]
 
     def name(self):
         refuse_if(self.peek()[1] in RESERVED, "Form")
@@ -82,8 +83,8 @@ class Tokens:
     def bound(self, sign):
         """An end of a bound; None where it is open."""
         open_end = [("mark", "-"), ("word", "inf")] if sign < 0 else [("word", "inf")]
-        if self.left[: len(open_end)] == open_end:
-            del self.left[: len(open_end)]
+        if self.tokens[self.at : self.at + len(open_end)] == open_end:
+            self.at += len(open_end)
             return None
         return self.signed()
 
@@ -100,7 +101,7 @@ class Tokens:
             sign = -1 if self.take("mark") == "-" else 1
 
     def end(self):
-        refuse_if(self.left, "Form")
+        refuse_if(self.at < len(self.tokens), "Form")
 
 
 def value(signed):
@@ -148,8 +149,8 @@ class Model:
         scale = lcm(number.denominator, *(c.denominator for c in coefficients.values()))
         refuse_if(any(c == 0 or abs(c * scale) > MOST for c in coefficients.values()), "Number")
         refuse_if(abs(number * scale) > MOST, "Number")
-        order = list(self.vars)
-        stored = sorted(((name, int(c * scale)) for name, c in coefficients.items()), key=lambda t: order.index(t[0]))
+        order = {name: place for place, name in enumerate(self.vars)}
+        stored = sorted(((name, int(c * scale)) for name, c in coefficients.items()), key=lambda t: order[t[0]])
         return stored, int(number * scale), scale
 
     def line(self, line, tokens):
