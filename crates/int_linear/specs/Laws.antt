@@ -1,5 +1,5 @@
 -- The laws that crates above rest on. Each is the contract of a function of `laws`.
-use Rattle.std.specs.Prelude.{◌≡◌, ◌↔◌, ◌<◌, ℕ, List, ℤ, pos, ◌+ℤ◌, ◌*ℤ◌, ◌≤ℤ◌, ◌<ℤ◌}
+use Rattle.std.specs.Prelude.{◌≡◌, ◌≢◌, ◌↔◌, ◌<◌, ℕ, List, ℤ, pos, ◌+ℤ◌, ◌*ℤ◌, ◌≤ℤ◌, ◌<ℤ◌}
 use Rattle.int_linear.specs.Sums.{total, inner}
 use Rattle.int_linear.specs.Terms.{dot, coefficients, scaled, AllBelow}
 use Rattle.int_linear.specs.Divisors.{IsRowGcd, IsPrimitive}
@@ -9,6 +9,12 @@ pub record ProductsSpread : Type 0 where
   pub over_sums : (a b c : ℤ) → a *ℤ (b +ℤ c) ≡ a *ℤ b +ℤ a *ℤ c
   pub grouping : (a b c : ℤ) → a *ℤ b *ℤ c ≡ a *ℤ (b *ℤ c)
   pub order : (a b : ℤ) → a *ℤ b ≡ b *ℤ a
+
+-- the signs of two factors say the sign of their product
+pub record SignsOfProducts : Type 0 where
+  pub both_positive : (a b : ℤ) → pos 0 <ℤ a → pos 0 <ℤ b → pos 0 <ℤ (a *ℤ b)
+  pub both_negative : (a b : ℤ) → a <ℤ pos 0 → b <ℤ pos 0 → pos 0 <ℤ (a *ℤ b)
+  pub apart : (a b : ℤ) → pos 0 <ℤ a → b <ℤ pos 0 → (a *ℤ b) <ℤ pos 0
 
 -- a positive factor keeps order and equality, both ways
 pub record FactorsCancel : Type 0 where
@@ -29,6 +35,10 @@ DotIsInner = (n : ℕ) (ts : List (ℕ × ℤ)) (v : ℕ → ℤ) → AllBelow n
 -- the inner product of a combination of two rows is the combination of theirs
 abbrev pub InnerIsLinear : Type 0
 InnerIsLinear = (n : ℕ) (a b : ℤ) (f g v : ℕ → ℤ) → inner n (λ j. a *ℤ f j +ℤ b *ℤ g j) v ≡ a *ℤ inner n f v +ℤ b *ℤ inner n g v
+
+-- a sum of which the terms at all places but one are 0 is the term at that place
+abbrev pub OnePlaceAlone : Type 0
+OnePlaceAlone = (n k : ℕ) (f : ℕ → ℤ) → k < n → ((j : ℕ) → j < n → j ≢ k → f j ≡ pos 0) → total n f ≡ f k
 
 -- a sum over a table is the same by rows and by columns
 abbrev pub SumsSwap : Type 0

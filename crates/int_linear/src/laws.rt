@@ -1,10 +1,15 @@
 //! The laws, each the contract of a function with an empty body.
 
-ghost use Rattle.int_linear.specs.Laws.{ProductsSpread, FactorsCancel, DotIsLinear, DotIsInner, InnerIsLinear, SumsSwap, CombinationOfRows, EveryRowHasGcd, DividedIsPrimitive, OnePrimitiveRow};
+ghost use Rattle.int_linear.specs.Laws.{ProductsSpread, SignsOfProducts, FactorsCancel, DotIsLinear, DotIsInner, InnerIsLinear, OnePlaceAlone, SumsSwap, CombinationOfRows, EveryRowHasGcd, DividedIsPrimitive, OnePrimitiveRow};
 
 /// Products spread over sums, and their grouping and order do not count.
 pub fn products_spread()
     ensures { ProductsSpread }
+{}
+
+/// The signs of two factors say the sign of their product.
+pub fn signs_of_products()
+    ensures { SignsOfProducts }
 {}
 
 /// A positive factor keeps order and equality, and can be taken away again.
@@ -25,6 +30,11 @@ pub fn dot_is_inner()
 /// The inner product of a combination of two rows is the combination of theirs.
 pub fn inner_is_linear()
     ensures { InnerIsLinear }
+{}
+
+/// A sum of which the terms at all places but one are 0 is the term at that place.
+pub fn one_place_alone()
+    ensures { OnePlaceAlone }
 {}
 
 /// A sum over a table is the same by rows and by columns.
