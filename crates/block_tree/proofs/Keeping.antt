@@ -1,8 +1,10 @@
 -- What a builder keeps: each call leaves it whole.
 use Rattle.std.proofs.Common.{◌≡◌, ◌⊎◌, inl, inr, ℕ, zero, suc, ◌+◌, ◌≤◌, ◌<◌, Bool, true, false, not, ◌&&◌, ◌||◌, List, [], ◌∷◌, ◌++◌, length, map, Option, Some, None, Result, Ok, Err, refl, ap, sym, ◌∙◌, subst, arith, rules, nat_lt, nat_le, nat_eq, ◌==◌, ℤ, pos, int_lt, is_some, is_none, if◌then◌else◌, length-append}
 use Rattle.std.proofs.lemmas.List.{length-map, map-append}
+use Rattle.std.proofs.lemmas.List.Elements.{All-append, All-cons, All-nil}
 use Rattle.std.proofs.lemmas.Bool.Decides.{nat_tests}
 use Rattle.std.specs.List.{list_all, list_any}
+use Rattle.std.specs.Result.{OnOk}
 use Rattle.std.specs.Str.{bytes_eq}
 use Rattle.fractions.specs.Fraction.{Fraction}
 use Rattle.fractions.specs.Memory.{Acts, unless, refuse_if}
@@ -12,11 +14,11 @@ use Rattle.lp_rows.specs.Holding.{ids_below}
 use Rattle.lp_rows.specs.Rows.{RowValue, is_storable, row_refusal}
 use Rattle.block_tree.specs.declared.bounds.Bound.{Bound}
 use Rattle.block_tree.specs.declared.errors.BuildError.{BuildError}
-use Rattle.block_tree.specs.declared.errors.BuildError.TheVariants.{Place, NameTwice, NameUnknown, Number, Limit, Missing, Unclosed}
-use Rattle.block_tree.specs.Building.{OpenBlock, OpenDisjunction, BuildingValue, new_building, is_empty, is_at_root, is_taken, is_bound, refusal_of_var, var_outcome, refusal_of_terms, refusal_of_row, row_outcome, are_ids_below, are_numbers, stored_row, rows_so_far, refusal_of_finish, built_model, closed_block, goal_of}
+use Rattle.block_tree.specs.declared.errors.BuildError.TheVariants.{Place, NameTwice, NameUnknown, Number, Limit, Memory}
+use Rattle.block_tree.specs.Building.{OpenBlock, OpenDisjunction, BuildingValue, is_empty, is_at_root, is_taken, is_bound, refusal_of_var, var_outcome, refusal_of_terms, refusal_of_row, row_outcome, are_ids_below, are_numbers, stored_row, rows_so_far}
 use Rattle.block_tree.specs.Names.{has_name, is_name}
 use Rattle.block_tree.specs.Scaling.{insert_term, sorted_among, sorted_terms, scaled, scaled_terms, stored_terms, scale_of, has_id_twice}
-use Rattle.block_tree.specs.Sound.{are_names, names_of, are_rows_below, is_filled, is_block_sound, are_disjunctions_sound, are_disjuncts_sound, is_open_sound, is_opened_sound, is_placed, are_around_sound, is_goal_sound, is_given_sound, IsSound, IsWhole}
+use Rattle.block_tree.specs.Sound.{are_names, names_of, are_rows_below, is_filled, is_block_sound, are_disjunctions_sound, are_disjuncts_sound, is_open_sound, is_opened_sound, is_placed, are_around_sound, is_goal_sound, is_given_sound, AreEndsLowest, IsNested, IsWhole}
 use Rattle.block_tree.specs.Values.{GoalValue}
 use Rattle.block_tree.specs.Tree.{BlockTree, block, Disjunctions, no_disjunctions, disjunction, Disjuncts, no_disjuncts, disjunct}
 use Rattle.block_tree.specs.View.{disjuncts, disjunctions}
@@ -31,6 +33,13 @@ pub unless_keeps : {S A E : Type 0} (P : S → Type 0) (refusal : Option E) (old
     → P old → (refusal ≡ None → P next) → P (unless refusal old answer next).1
 unless_keeps P (Some e) old answer next p q = p
 unless_keeps P None old answer next p q = q refl
+
+-- a call keeps what holds where what an accepted one leaves has it, by a fact that comes with its answer
+pub accepted_keeps : {S A E : Type 0} (P : S → Type 0) (Fact : Type 0) (memory : E) (s : S) (refusal : Option E) (answer : A) (after : S) (r : Result A E) (next : S)
+    → Acts memory s (unless refusal s answer after) r next → OnOk r Fact → P s → (refusal ≡ None → Fact → P after) → P next
+accepted_keeps P Fact memory s (Some e) answer after r next a f p q = elim a [ inl x ↦ subst P (sym x.1) p | inr x ↦ subst P (sym x.1) p ]
+accepted_keeps P Fact memory s None answer after r next a f p q =
+    elim a [ inl x ↦ subst P (sym x.1) (q refl (subst (λ y. OnOk y Fact) x.0 f)) | inr x ↦ subst P (sym x.1) p ]
 
 -- a test that refuses nothing is false, and nothing below refuses
 pub refuses_not : {E : Type 0} (test : Bool) (refusal : E) (below : Option E) → refuse_if test refusal below ≡ None → (test ≡ false) × (below ≡ None)
@@ -191,13 +200,14 @@ given_more n k (Some g) l h = goal_more n k g l h
 pub below_limit : (most n : ℕ) → nat_le most n ≡ false → n + 1 ≤ most
 below_limit most n h = grind (arith, nat_tests)
 
-pub var_keeps_whole : (name : List ℕ) (kind : Kind) (bound : Bound) (mark : ℕ) (b : BuildingValue) → IsWhole b → IsWhole (var_outcome name kind bound mark b).1
-var_keeps_whole name kind bound mark b w =
-    unless_keeps IsWhole (refusal_of_var name bound b) b (length b.vars) (record b { vars = b.vars ++ (name, kind, bound, mark) ∷ [] }) w (λ h.
+pub var_keeps_whole : (name : List ℕ) (kind : Kind) (bound : Bound) (mark : ℕ) (b next : BuildingValue) (r : Result ℕ BuildError) → Acts Memory b (var_outcome name kind bound mark b) r next
+    → OnOk r (AreEndsLowest bound) → IsWhole b → IsWhole next
+var_keeps_whole name kind bound mark b next r a o w =
+    accepted_keeps IsWhole (AreEndsLowest bound) Memory b (refusal_of_var name bound b) (length b.vars) (record b { vars = b.vars ++ (name, kind, bound, mark) ∷ [] }) r next a o w (λ h l.
     let p = refuses_not (not (is_at_root b)) Place (refuse_if (is_taken name b) NameTwice (refuse_if (not (is_bound bound)) Number (refuse_if (nat_le 500 (length b.vars) || not (is_name name)) Limit None))) h in
     let q = refuses_not (is_taken name b) NameTwice (refuse_if (not (is_bound bound)) Number (refuse_if (nat_le 500 (length b.vars) || not (is_name name)) Limit None)) p.1 in
-    let r = refuses_not (not (is_bound bound)) Number (refuse_if (nat_le 500 (length b.vars) || not (is_name name)) Limit None) q.1 in
-    let s = refuses_not (nat_le 500 (length b.vars) || not (is_name name)) Limit None r.1 in
+    let g = refuses_not (not (is_bound bound)) Number (refuse_if (nat_le 500 (length b.vars) || not (is_name name)) Limit None) q.1 in
+    let s = refuses_not (nat_le 500 (length b.vars) || not (is_name name)) Limit None g.1 in
     let t = neither (nat_le 500 (length b.vars)) (not (is_name name)) s.0 in
     let f = sym (has_append name (map (λ v. v.0) b.vars) (map (λ v. v.0) b.booleans)) ∙ q.0 in
     let e : length (b.vars ++ (name, kind, bound, mark) ∷ []) ≡ length b.vars + 1 = length-append b.vars ((name, kind, bound, mark) ∷ []) in
@@ -213,6 +223,11 @@ var_keeps_whole name kind bound mark b w =
       names = rw (map-append (λ v. v.0) b.vars ((name, kind, bound, mark) ∷ []))
           (rw (append_one (map (λ v. v.0) b.vars) name (map (λ v. v.0) b.booleans))
           (names_middle name (map (λ v. v.0) b.vars) (map (λ v. v.0) b.booleans) (not_false (is_name name) t.1) f w.names));
+      bounds = all_append (λ v. is_bound v.2) b.vars ((name, kind, bound, mark) ∷ []) w.bounds (and_true (is_bound bound) true (not_false (is_bound bound) g.0) refl);
+      ends = All-append (λ v. AreEndsLowest v.2) b.vars ((name, kind, bound, mark) ∷ []) w.ends
+          (All-cons (λ v. AreEndsLowest v.2) (name, kind, bound, mark) [] l (All-nil (λ v. AreEndsLowest v.2)));
+      scale = w.scale;
+      nested = w.nested;
     })
   where
     append_one : {A : Type 0} (xs : List A) (y : A) (ys : List A) → (xs ++ y ∷ []) ++ ys ≡ xs ++ y ∷ ys
@@ -244,6 +259,16 @@ pub ids_scaled : (n k : ℕ) (ts : List (ℕ × Fraction)) → ids_below n (scal
 ids_scaled n k [] = refl
 ids_scaled n k (t ∷ ts) = ap (λ b. nat_lt t.0 n && b) (ids_scaled n k ts)
 
+row_nested : (m : ℕ) (inner : OpenBlock) (rows : List (RowValue × ℕ)) (opened : Option OpenDisjunction) (outer : List (OpenBlock × OpenDisjunction))
+    → IsNested m inner opened outer → IsNested m (record inner { rows = rows }) opened outer
+row_nested m inner rows opened outer n = record {
+  few_around = n.few_around;
+  shallow = n.shallow;
+  shallow_opened = n.shallow_opened;
+  shallow_around = n.shallow_around;
+  indicators = n.indicators;
+}
+
 pub row_keeps_whole : (terms : List (ℕ × Fraction)) (rel : Rel) (right : Fraction) (mark : ℕ) (b : BuildingValue) → IsWhole b → IsWhole (row_outcome terms rel right mark b).1
 row_keeps_whole terms rel right mark b w =
     let row = stored_row terms rel right in
@@ -268,45 +293,16 @@ row_keeps_whole terms rel right mark b w =
       few_booleans = w.few_booleans;
       few_rows = omega (arith, e, m);
       names = w.names;
+      bounds = w.bounds;
+      ends = w.ends;
+      scale = w.scale;
+      nested = row_nested (length b.booleans) b.inner next.inner.rows b.opened b.outer w.nested;
       goal = w.goal;
       inner = and_true (are_rows_below (length b.vars) next.inner.rows) (are_disjunctions_sound (length b.vars) (length b.booleans) (disjunctions b.inner.closed)) y x.1;
       opened = w.opened;
       placed = w.placed;
       outer = w.outer;
     })
-
--- the builder that is new, and the model that is made
-
-pub new_is_whole : IsWhole new_building
-new_is_whole = record {
-  few_variables = omega arith;
-  few_booleans = omega arith;
-  few_rows = omega arith;
-  names = refl;
-  goal = refl;
-  inner = refl;
-  opened = refl;
-  placed = refl;
-  outer = refl;
-}
-
-goal_is_sound : (n : ℕ) (g : Option GoalValue) → is_given_sound n g ≡ true → is_goal_sound n (goal_of g) ≡ true
-goal_is_sound n None h = refl
-goal_is_sound n (Some g) h = h
-
-pub built_is_sound : (b : BuildingValue) → IsWhole b → refusal_of_finish b ≡ None → IsSound (built_model b)
-built_is_sound b w h =
-    let p = refuses_not (not (is_at_root b)) Unclosed (refuse_if (is_empty b.vars) Missing None) h in
-    let q = refuses_not (is_empty b.vars) Missing None p.1 in
-    record {
-      some_variable = q.0;
-      few_variables = w.few_variables;
-      few_booleans = w.few_booleans;
-      few_rows = omega (arith, w.few_rows);
-      names = w.names;
-      goal = goal_is_sound (length b.vars) b.goal w.goal;
-      root = w.inner;
-    }
 
 pub var_keeps_rows : (name : List ℕ) (kind : Kind) (bound : Bound) (mark : ℕ) (b : BuildingValue) → rows_so_far (var_outcome name kind bound mark b).1 ≡ rows_so_far b
 var_keeps_rows name kind bound mark b =

@@ -10,10 +10,14 @@ use Rattle.std.proofs.lemmas.Nat.Gcd.{dvd_refl, dvd_trans, dvd_antisymm, le_of_d
 use Rattle.std.proofs.Math.Nat.{dvd-mul_left, dvd-mul_right}
 use Rattle.fractions.specs.Divisors.{IsLcm}
 use Rattle.fractions.specs.Fraction.{Fraction}
-use Rattle.lp_rows.specs.Rows.{is_storable, has_zero, are_storable, ascends_from, row_refusal}
-use Rattle.fractions.specs.Memory.{refuse_if, refused_or}
+use Rattle.lp_rows.specs.declared.kinds.Rel.{Rel}
+use Rattle.lp_rows.specs.declared.rows.RowError.{RowError}
+use Rattle.lp_rows.specs.declared.rows.RowError.TheVariants as row_error
+use Rattle.lp_rows.specs.Rows.{RowValue, is_storable, has_zero, are_storable, ascends_from, row_refusal, row_made}
+use Rattle.fractions.specs.Memory.{OrMemory, refuse_if, refused_or}
 use Rattle.block_tree.specs.declared.errors.BuildError.{BuildError}
-use Rattle.block_tree.specs.declared.errors.BuildError.TheVariants.{Number, NameTwice, NameUnknown}
+use Rattle.block_tree.specs.declared.errors.BuildError.TheVariants.{Number, NameTwice, NameUnknown, Memory}
+use Rattle.block_tree.specs.declared.scaling.Stored.{Stored}
 use Rattle.block_tree.specs.Building.{has_small_parts, are_ids_below, are_numbers, refusal_of_terms}
 use Rattle.block_tree.specs.Scaling.{is_multiple, all_divide, least_multiple_from, product_of, least_scale, are_positive, denominators, scale_of, scaled, scaled_terms, has_id_twice, insert_term, sorted_among, sorted_terms, stored_terms}
 use Rattle.block_tree.proofs.Keeping.{both, and_true}
@@ -111,7 +115,7 @@ least_scale_is ds h =
     let f = search_finds (product_of ds) 1 (product_of ds) ds p (omega arith) (product_divided ds) in
     record { divided = f.0; positive = f.2 }
 
-least_scale_below : (ds : List ℕ) (m : ℕ) → are_positive ds ≡ true → 1 ≤ m → all_divide ds m ≡ true → least_scale ds ≤ m
+pub least_scale_below : (ds : List ℕ) (m : ℕ) → are_positive ds ≡ true → 1 ≤ m → all_divide ds m ≡ true → least_scale ds ≤ m
 unfolding least_scale
 least_scale_below ds m h l a = below (nat_le m (1 + product_of ds)) refl
   where
@@ -324,6 +328,26 @@ refused_above n ts f below v e h = by_tests (has_id_twice ts) (not (are_ids_belo
     by_tests false true c q = cc
     by_tests false false true q = cc
     by_tests false false false q = cc
+
+-- the row that is made of stored numbers is the one that is stored
+pub row_is_stored : (refusal : Option BuildError) (v s : Stored) (terms : List (ℕ × ℤ)) (number : ℤ) (rel : Rel) (row : RowValue) → OrMemory Memory (Ok s) (refused_or refusal v)
+    → terms ≡ s.terms → number ≡ s.number → row_refusal s.terms s.number ≡ None → OrMemory row_error.Memory (Ok row) (row_made terms rel number)
+    → OrMemory Memory (Ok row) (refused_or refusal (record { terms = v.terms; rel = rel; right = v.number }))
+row_is_stored (Some e) v s terms number rel row a f g h m = elim a [ inl x ↦ cc | inr x ↦ cc ]
+row_is_stored None v s terms number rel row a f g h m = elim a [ inl x ↦ elim m [ inl y ↦ inl (ap (λ (r : RowValue). Ok r) (made (ap stored_in x) y)) | inr y ↦ cc ] | inr x ↦ cc ]
+  where
+    stored_in : Result Stored BuildError → Stored
+    stored_in (Ok z) = z
+    stored_in (Err z) = s
+
+    row_in : Result RowValue RowError → RowValue
+    row_in (Ok z) = z
+    row_in (Err z) = row
+
+    made : s ≡ v → Ok row ≡ row_made terms rel number → row ≡ record { terms = v.terms; rel = rel; right = v.number }
+    made x y =
+        let z : row ≡ record { terms = s.terms; rel = rel; right = s.number } = ap row_in (rw (f, g, h) at y) in
+        z ∙ ap (λ (i : Stored). record { terms = i.terms; rel = rel; right = i.number }) x
 
 -- stored terms and a stored number make a row
 pub ascends_scaled : (k least : ℕ) (ts : List (ℕ × Fraction)) → ascends_from least (scaled_terms k ts) ≡ ascends_from least ts

@@ -4,43 +4,54 @@ use Rattle.std.proofs.lemmas.List.{map-append}
 use Rattle.std.proofs.lemmas.Int.{ints}
 use Rattle.std.proofs.lemmas.Bool.Decides.{nat_tests}
 use Rattle.std.specs.List.{list_all}
+use Rattle.std.specs.Option.{ForSome}
+use Rattle.std.specs.Result.{OnOk}
 use Rattle.fractions.specs.Fraction.{Fraction}
-use Rattle.fractions.specs.Memory.{unless, refuse_if}
+use Rattle.fractions.specs.Memory.{Acts, unless, refuse_if}
 use Rattle.lp_rows.specs.declared.kinds.Sense.{Sense}
 use Rattle.lp_rows.specs.Holding.{ids_below}
 use Rattle.lp_rows.specs.Rows.{is_storable, row_refusal, ascends_from, has_zero, are_storable}
 use Rattle.block_tree.specs.declared.errors.BuildError.{BuildError}
-use Rattle.block_tree.specs.declared.errors.BuildError.TheVariants.{Place, NameTwice, NameUnknown, Number, Nesting, Limit, Missing}
+use Rattle.block_tree.specs.declared.errors.BuildError.TheVariants.{Place, NameTwice, NameUnknown, Number, Nesting, Limit, Missing, Memory}
 use Rattle.block_tree.specs.declared.tree.Mode.{Mode}
 use Rattle.block_tree.specs.Building.{OpenBlock, OpenDisjunction, BuildingValue, empty_block, is_empty, is_at_root, is_taken, are_ids_below, are_numbers, has_small_parts, refusal_of_terms, rows_so_far, rows_in_open, rows_in_opened, rows_around, closed_block}
 use Rattle.block_tree.specs.Names.{has_name, is_name}
 use Rattle.block_tree.specs.Nesting.{refusal_of_boolean, boolean_outcome, refusal_of_scale, refusal_of_goal, stored_goal, goal_outcome, open_disjunction_outcome, refusal_of_disjunct, with_disjunct, open_disjunct_in, open_disjunct_outcome, closed_disjunct, closed_disjunction, close_disjunction, close_disjunct, close_opened, close_outcome}
-use Rattle.block_tree.specs.Scaling.{has_id, has_id_twice, sorted_among, sorted_terms, scaled, scaled_terms, stored_terms, scale_of, least_scale, least_multiple_from, all_divide, product_of, denominators, insert_term}
-use Rattle.block_tree.specs.Sound.{are_names, names_of, are_rows_below, is_filled, is_block_sound, are_disjunctions_sound, are_disjuncts_sound, is_open_sound, is_opened_sound, is_placed, are_around_sound, is_goal_sound, is_given_sound, IsWhole}
+use Rattle.block_tree.specs.Scaling.{has_id, has_id_twice, sorted_among, sorted_terms, scaled, scaled_terms, stored_terms, scale_of, least_scale, least_multiple_from, all_divide, product_of, denominators, insert_term, AreLowest}
+use Rattle.block_tree.specs.Sound.{are_names, names_of, are_rows_below, is_filled, is_block_sound, are_disjunctions_sound, are_disjuncts_sound, is_open_sound, is_opened_sound, is_placed, are_around_sound, is_goal_sound, is_given_sound, IsScaleLeast, IsNested, IsWhole}
 use Rattle.block_tree.specs.Tree.{BlockTree, block, Disjunctions, no_disjunctions, disjunction, Disjuncts, no_disjuncts, disjunct, DisjunctionHead, DisjunctHead, row_count, row_count_below, row_count_within}
 use Rattle.block_tree.specs.Values.{GoalValue}
+use Rattle.block_tree.specs.Variables.{BooleanValue}
 use Rattle.block_tree.specs.View.{DisjunctTree, DisjunctionTree, disjuncts, disjunctions}
-use Rattle.block_tree.proofs.Keeping.{unless_keeps, refuses_not, both, and_true, neither, not_false, below_limit, names_middle, has_append, ids_sorted, ids_scaled, open_more, opened_more, placed_more, around_more, around_parts, around_whole, disjuncts_more, given_more}
+use Rattle.block_tree.proofs.Keeping.{accepted_keeps, unless_keeps, refuses_not, both, and_true, neither, not_false, below_limit, names_middle, has_append, ids_sorted, ids_scaled, open_more, opened_more, placed_more, around_more, around_parts, around_whole, disjuncts_more, given_more}
 use Rattle.block_tree.proofs.Multiples.{ascends_scaled}
+use Rattle.block_tree.proofs.Places.{boolean_nested, disjunction_nested, disjunct_nested, closed_disjunction_nested, closed_disjunct_nested}
+use Rattle.block_tree.proofs.Scales.{scale_least}
 use Rattle.block_tree.proofs.Sorted.{ascends-insert, clash, is_twice, twice_goes_on, twice_none, least}
 
 -- a Boolean
 
-booleans_whole : (name : List ℕ) (mark : ℕ) (b : BuildingValue) → IsWhole b → is_taken name b ≡ false → nat_le 200 (length b.booleans) ≡ false → is_name name ≡ true
-    → IsWhole (record b { booleans = b.booleans ++ (name, mark) ∷ [] })
-booleans_whole name mark b w taken few named =
+-- what one more Boolean leaves, but for the places of disjuncts
+record HasBoolean (b : BuildingValue) (booleans : List BooleanValue) : Type 0 where
+  few_booleans : length booleans ≤ 200
+  names : are_names (names_of b.vars booleans) ≡ true
+  inner : is_open_sound (length b.vars) (length booleans) b.inner ≡ true
+  opened : is_opened_sound (length b.vars) (length booleans) b.opened ≡ true
+  placed : is_placed (length booleans) b.inner b.outer ≡ true
+  outer : are_around_sound (length b.vars) (length booleans) b.outer ≡ true
+
+one_boolean_more : (name : List ℕ) (mark : ℕ) (b : BuildingValue) → IsWhole b → is_taken name b ≡ false → nat_le 200 (length b.booleans) ≡ false → is_name name ≡ true
+    → HasBoolean b (b.booleans ++ (name, mark) ∷ [])
+one_boolean_more name mark b w taken few named =
     let e : length (b.booleans ++ (name, mark) ∷ []) ≡ length b.booleans + 1 = length-append b.booleans ((name, mark) ∷ []) in
     let vars = map (λ v. v.0) b.vars in
     let names = map (λ x. x.0) b.booleans in
     let absent : has_name name ((vars ++ names) ++ []) ≡ false = rw (append-nil (vars ++ names)) (sym (has_append name vars names) ∙ taken) in
     let before : are_names ((vars ++ names) ++ []) ≡ true = rw (append-nil (vars ++ names)) w.names in
     record {
-      few_variables = w.few_variables;
       few_booleans = rw e (below_limit 200 (length b.booleans) few);
-      few_rows = w.few_rows;
       names = rw (map-append (λ x. x.0) b.booleans ((name, mark) ∷ []), ← (append_assoc vars names (name ∷ [])))
           (names_middle name (vars ++ names) [] named absent before);
-      goal = w.goal;
       inner = rw e (open_more (length b.vars) (length b.vars) (length b.booleans) (length b.booleans + 1) b.inner (omega arith) (omega arith) w.inner);
       opened = rw e (opened_more (length b.vars) (length b.vars) (length b.booleans) (length b.booleans + 1) b.opened (omega arith) (omega arith) w.opened);
       placed = rw e (placed_more (length b.booleans) (length b.booleans + 1) b.inner b.outer (omega arith) w.placed);
@@ -55,7 +66,23 @@ boolean_keeps_whole name mark b w =
     let q = refuses_not (is_taken name b) NameTwice limit p.1 in
     let r = refuses_not (nat_le 200 (length b.booleans) || not (is_name name)) Limit None q.1 in
     let s = neither (nat_le 200 (length b.booleans)) (not (is_name name)) r.0 in
-    booleans_whole name mark b w q.0 s.0 (not_false (is_name name) s.1))
+    let o = neither (not (is_at_root b)) (not (is_empty b.inner.closed)) p.0 in
+    let v = one_boolean_more name mark b w q.0 s.0 (not_false (is_name name) s.1) in
+    record {
+      few_variables = w.few_variables;
+      few_booleans = v.few_booleans;
+      few_rows = w.few_rows;
+      names = v.names;
+      bounds = w.bounds;
+      ends = w.ends;
+      scale = w.scale;
+      nested = boolean_nested (length (b.booleans ++ (name, mark) ∷ [])) b (not_false (is_at_root b) o.0) (not_false (is_empty b.inner.closed) o.1);
+      goal = w.goal;
+      inner = v.inner;
+      opened = v.opened;
+      placed = v.placed;
+      outer = v.outer;
+    })
 
 pub boolean_keeps_rows : (name : List ℕ) (mark : ℕ) (b : BuildingValue) → rows_so_far (boolean_outcome name mark b).1 ≡ rows_so_far b
 boolean_keeps_rows name mark b =
@@ -111,13 +138,21 @@ numbers_parts false b z s r h = cc
 row_refuses_not : (terms : List (ℕ × ℤ)) (number : ℤ) → ascends_from 0 terms ≡ true → has_zero terms ≡ false → are_storable terms ≡ true → is_storable number ≡ true → row_refusal terms number ≡ None
 row_refuses_not terms number a z s n = rw (a, z, s, n)
 
-pub goal_keeps_whole : (sense : Sense) (terms : List (ℕ × Fraction)) (constant : Fraction) (mark : ℕ) (b : BuildingValue) → IsWhole b → IsWhole (goal_outcome sense terms constant mark b).1
-goal_keeps_whole sense terms constant mark b w =
+given_least : (g : GoalValue) → IsScaleLeast g → ForSome (Some g) IsScaleLeast
+given_least g h x e = subst (λ (o : Option GoalValue). IsScaleLeast (given_or o)) e h
+  where
+    given_or : Option GoalValue → GoalValue
+    given_or None = g
+    given_or (Some y) = y
+
+pub goal_keeps_whole : (sense : Sense) (terms : List (ℕ × Fraction)) (constant : Fraction) (mark : ℕ) (b next : BuildingValue) (answer : Result (Unit {0}) BuildError)
+    → Acts Memory b (goal_outcome sense terms constant mark b) answer next → OnOk answer (AreLowest terms constant) → IsWhole b → IsWhole next
+goal_keeps_whole sense terms constant mark b next answer acts lowest w =
     let k = scale_of terms constant in
     let n = length b.vars in
     let below : Option BuildError = refusal_of_scale terms constant in
     let g = stored_goal sense terms constant mark in
-    unless_keeps IsWhole (refusal_of_goal terms constant b) b tt (record b { goal = Some g }) w (λ h.
+    accepted_keeps IsWhole (AreLowest terms constant) Memory b (refusal_of_goal terms constant b) tt (record b { goal = Some g }) answer next acts lowest w (λ h l.
     let p = refuses_not (not (is_at_root b) || is_some b.goal) Place (refusal_of_terms n terms constant below) h in
     let q = refuses_not (has_id_twice terms) NameTwice (refuse_if (not (are_ids_below n terms)) NameUnknown (refuse_if (not (are_numbers k terms constant)) Number below)) p.1 in
     let r = refuses_not (not (are_ids_below n terms)) NameUnknown (refuse_if (not (are_numbers k terms constant)) Number below) q.1 in
@@ -132,6 +167,10 @@ goal_keeps_whole sense terms constant mark b w =
       few_booleans = w.few_booleans;
       few_rows = w.few_rows;
       names = w.names;
+      bounds = w.bounds;
+      ends = w.ends;
+      scale = given_least g (scale_least sense mark terms constant l);
+      nested = w.nested;
       goal = four_true (ids_below n g.terms) (is_none (row_refusal g.terms g.constant)) (int_lt (pos 0) g.scale) (is_storable g.scale) ids row (scale_positive terms constant) (not_false (is_storable (pos k)) t.0);
       inner = w.inner;
       opened = w.opened;
@@ -146,14 +185,24 @@ goal_keeps_rows sense terms constant mark b =
 
 -- a disjunction is opened
 
+is_none_given : {A : Type 0} (o : Option A) → is_some o ≡ false → o ≡ None
+is_none_given None h = refl
+is_none_given (Some x) h = cc
+
 pub open_disjunction_keeps_whole : (mode : Mode) (mark : ℕ) (b : BuildingValue) → IsWhole b → IsWhole (open_disjunction_outcome mode mark b).1
 open_disjunction_keeps_whole mode mark b w =
-    unless_keeps IsWhole (refuse_if (is_some b.opened) Place None) b tt (record b { opened = Some (record { mode = mode; mark = mark; closed = [] }) }) w (λ h.
+    let d : OpenDisjunction = record { mode = mode; mark = mark; closed = [] } in
+    unless_keeps IsWhole (refuse_if (is_some b.opened) Place None) b tt (record b { opened = Some d }) w (λ h.
+    let p = refuses_not (is_some b.opened) Place None h in
     record {
       few_variables = w.few_variables;
       few_booleans = w.few_booleans;
       few_rows = omega (arith, w.few_rows);
       names = w.names;
+      bounds = w.bounds;
+      ends = w.ends;
+      scale = w.scale;
+      nested = disjunction_nested (length b.booleans) b.inner d b.outer refl (subst (λ o. IsNested (length b.booleans) b.inner o b.outer) (is_none_given b.opened p.0) w.nested);
       goal = w.goal;
       inner = w.inner;
       opened = refl;
@@ -194,18 +243,23 @@ disjunct_whole name mark b d o w h =
     let q = refuses_not (nat_le 8 (length b.outer)) Nesting limit p.1 in
     let r = refuses_not (nat_le 200 (length b.booleans) || not (is_name name)) Limit None q.1 in
     let s = neither (nat_le 200 (length b.booleans)) (not (is_name name)) r.0 in
-    let v = booleans_whole name mark b w p.0 s.0 (not_false (is_name name) s.1) in
+    let v = one_boolean_more name mark b w p.0 s.0 (not_false (is_name name) s.1) in
+    let nested = disjunct_nested (length b.booleans) mark b.inner d b.outer q.0 (subst (λ x. IsNested (length b.booleans) b.inner x b.outer) o w.nested) in
     let e : length (b.booleans ++ (name, mark) ∷ []) ≡ length b.booleans + 1 = length-append b.booleans ((name, mark) ∷ []) in
     let m = length (b.booleans ++ (name, mark) ∷ []) in
     let n = length b.vars in
     let rows : rows_in_opened b.opened ≡ row_count_within (disjuncts d.closed) = ap rows_in_opened o in
     let sound : are_disjuncts_sound n m (disjuncts d.closed) ≡ true = ap (is_opened_sound n m) (sym o) ∙ v.opened in
     record {
-      few_variables = v.few_variables;
+      few_variables = w.few_variables;
       few_booleans = v.few_booleans;
       few_rows = omega (arith, w.few_rows, rows);
       names = v.names;
-      goal = v.goal;
+      bounds = w.bounds;
+      ends = w.ends;
+      scale = w.scale;
+      nested = subst (λ x. IsNested x (empty_block (length b.booleans) mark) None ((b.inner, d) ∷ b.outer)) (sym e) nested;
+      goal = w.goal;
       inner = refl;
       opened = refl;
       placed = or_last (is_empty ((b.inner, d) ∷ b.outer)) (nat_lt (length b.booleans) m) (rw e (next_is_below (length b.booleans)));
@@ -279,6 +333,10 @@ close_disjunction_whole b d o w =
       few_booleans = w.few_booleans;
       few_rows = omega (arith, w.few_rows, rows, count);
       names = w.names;
+      bounds = w.bounds;
+      ends = w.ends;
+      scale = w.scale;
+      nested = closed_disjunction_nested m b.inner d b.outer (subst (λ y. IsNested m b.inner y b.outer) o w.nested);
       goal = w.goal;
       inner = and_true (are_rows_below n b.inner.rows) (are_disjunctions_sound n m (disjunctions next.inner.closed)) x.0
           (disjunctions_sound_push n m b.inner.closed (closed_disjunction d) x.1 (filled d.closed p.0) sound);
@@ -302,6 +360,10 @@ close_disjunct_whole b (o ∷ os) e f w =
       few_booleans = w.few_booleans;
       few_rows = omega (arith, w.few_rows, rows, around, count);
       names = w.names;
+      bounds = w.bounds;
+      ends = w.ends;
+      scale = w.scale;
+      nested = closed_disjunct_nested m b.inner o os (subst (λ y. IsNested m b.inner None y) f (subst (λ y. IsNested m b.inner y b.outer) e w.nested));
       goal = w.goal;
       inner = p.0;
       opened = disjuncts_sound_push n m o.1.closed (closed_disjunct b.inner) p.1 i w.inner;

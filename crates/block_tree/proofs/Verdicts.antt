@@ -7,7 +7,8 @@ use Rattle.block_tree.specs.declared.errors.SumWide.{SumWide}
 use Rattle.block_tree.specs.declared.tree.Disjunct.{Disjunct}
 use Rattle.block_tree.specs.declared.tree.Disjunction.{Disjunction}
 use Rattle.block_tree.specs.Satisfied.{PointOf}
-use Rattle.block_tree.specs.Tests.{Test, passes, fails, is_wide, verdict_of, tests_of_var, tests_of_vars, test_of_off, below, below_disjunctions, below_disjuncts, tests_of_disjunctions, tests_of_disjuncts, tests_of_disjunction, tests_of_disjunct}
+use Rattle.block_tree.specs.Tree.{below, below_disjunctions, below_disjuncts}
+use Rattle.block_tree.specs.Tests.{Test, passes, fails, is_wide, verdict_of, tests_of_var, tests_of_vars, test_of_off, tests_of_disjunctions, tests_of_disjuncts, tests_of_disjunction, tests_of_disjunct}
 use Rattle.block_tree.specs.Variables.{VarValue}
 use Rattle.block_tree.specs.View.{disjunction_of, disjunct_of, disjunctions_of, disjuncts_of}
 

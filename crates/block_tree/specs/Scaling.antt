@@ -1,7 +1,7 @@
 -- Rows and goals of fractions, multiplied by the least positive whole number that makes them whole.
-use Rattle.std.specs.Prelude.{ℕ, zero, suc, ◌*◌, ◌/◌, ◌%◌, ℤ, pos, ◌*ℤ◌, Bool, true, false, ◌&&◌, ◌||◌, List, [], ◌∷◌, map, unsigned_abs, if◌then◌else◌, nat_lt, ◌==◌}
+use Rattle.std.specs.Prelude.{ℕ, zero, suc, ◌*◌, ◌/◌, ◌%◌, ℤ, pos, ◌*ℤ◌, Bool, true, false, ◌&&◌, ◌||◌, List, [], ◌∷◌, map, All, unsigned_abs, if◌then◌else◌, nat_lt, ◌==◌}
 use Rattle.std.specs.List.{list_all, list_any}
-use Rattle.fractions.specs.Fraction.{Fraction}
+use Rattle.fractions.specs.Fraction.{Fraction, IsLowest}
 
 -- the whole number d divides k
 abbrev pub is_multiple : ℕ → ℕ → Bool
@@ -10,6 +10,10 @@ is_multiple d k = k % d == 0
 -- each of these divides k
 abbrev pub all_divide : List ℕ → ℕ → Bool
 all_divide ds k = list_all (λ d. is_multiple d k) ds
+
+-- d divides each of these
+abbrev pub divides_all : ℕ → List ℕ → Bool
+divides_all d ks = list_all (λ k. is_multiple d k) ks
 
 -- the least of k, k + 1, .., k + n that each of these divides
 unfoldable pub least_multiple_from : ℕ → ℕ → List ℕ → ℕ
@@ -32,6 +36,14 @@ denominators ts = map (λ t. unsigned_abs t.1.den) ts
 -- each of these is positive
 abbrev pub are_positive : List ℕ → Bool
 are_positive ds = list_all (λ d. nat_lt 0 d) ds
+
+-- the fraction is in lowest terms
+abbrev pub IsInLowest : Fraction → Type 0
+IsInLowest f = IsLowest f.num f.den
+
+-- the terms and the number are in lowest terms
+abbrev pub AreLowest : List (ℕ × Fraction) → Fraction → Type 0
+AreLowest ts number = All (λ t. IsInLowest t.1) ts × IsInLowest number
 
 -- the least positive whole number that makes the terms and this number whole
 abbrev pub scale_of : List (ℕ × Fraction) → Fraction → ℕ

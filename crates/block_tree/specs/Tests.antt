@@ -8,7 +8,7 @@ use Rattle.block_tree.specs.declared.errors.Verdict.{Verdict}
 use Rattle.block_tree.specs.declared.errors.Verdict.TheVariants.{Holds, FailsAt}
 use Rattle.block_tree.specs.declared.errors.SumWide.{SumWide}
 use Rattle.block_tree.specs.Satisfied.{PointOf, is_above, is_below, is_of_kind, true_count, mode_allows}
-use Rattle.block_tree.specs.Tree.{DisjunctHead, BlockTree, block, Disjunctions, no_disjunctions, disjunction, Disjuncts, no_disjuncts, disjunct}
+use Rattle.block_tree.specs.Tree.{DisjunctHead, BlockTree, block, Disjunctions, no_disjunctions, disjunction, Disjuncts, no_disjuncts, disjunct, below}
 use Rattle.block_tree.specs.Variables.{VarValue}
 use Rattle.block_tree.specs.Values.{ModelTree}
 use Rattle.block_tree.specs.View.{DisjunctTree, DisjunctionTree}
@@ -54,19 +54,6 @@ tests_of_vars (v ∷ vs) j nums over = tests_of_var v (nums j) over ++ tests_of_
 -- the test of a row
 abbrev pub test_of_row : PointOf → RowValue × ℕ → Test
 test_of_row p r = sized_test (row_fits r.0 p.over p.nums) (holds_at r.0 p.over p.nums) r.1
-
--- the disjuncts below in order
-abbrev mutual
-  pub below : BlockTree → List DisjunctHead
-  below (block items ds) = below_disjunctions ds
-
-  pub below_disjunctions : Disjunctions → List DisjunctHead
-  below_disjunctions no_disjunctions = []
-  below_disjunctions (disjunction head js ds) = below_disjuncts js ++ below_disjunctions ds
-
-  pub below_disjuncts : Disjuncts → List DisjunctHead
-  below_disjuncts no_disjuncts = []
-  below_disjuncts (disjunct head b js) = head ∷ below b ++ below_disjuncts js
 
 -- the test that a disjunct below a false one is false too
 abbrev pub test_of_off : (ℕ → Bool) → DisjunctHead → Test

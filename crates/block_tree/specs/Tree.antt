@@ -1,5 +1,5 @@
 -- The tree of blocks, as plain data.
-use Rattle.std.specs.Prelude.{ℕ, ◌+◌, zero, List, length}
+use Rattle.std.specs.Prelude.{ℕ, ◌+◌, zero, List, [], ◌∷◌, ◌++◌, length}
 use Rattle.lp_rows.specs.Rows.{RowValue}
 use Rattle.block_tree.specs.declared.tree.Mode.{Mode}
 
@@ -42,3 +42,16 @@ abbrev mutual
   pub row_count_within : Disjuncts → ℕ
   row_count_within no_disjuncts = zero
   row_count_within (disjunct head b js) = row_count b + row_count_within js
+
+-- the disjuncts below in the order of the text: each before those of its block
+abbrev mutual
+  pub below : BlockTree → List DisjunctHead
+  below (block items ds) = below_disjunctions ds
+
+  pub below_disjunctions : Disjunctions → List DisjunctHead
+  below_disjunctions no_disjunctions = []
+  below_disjunctions (disjunction head js ds) = below_disjuncts js ++ below_disjunctions ds
+
+  pub below_disjuncts : Disjuncts → List DisjunctHead
+  below_disjuncts no_disjuncts = []
+  below_disjuncts (disjunct head b js) = head ∷ below b ++ below_disjuncts js

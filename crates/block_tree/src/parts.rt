@@ -1,6 +1,6 @@
 //! The parts of a builder, and its calls on them.
 
-ghost use Rattle.std.specs.Prelude.{◌≡◌, None, IsSome, IsNone};
+ghost use Rattle.std.specs.Prelude.{◌≡◌, None, IsSome, IsNone, OnOk};
 ghost use Rattle.fractions.specs.Memory.{Acts, OrMemory, refused_or};
 ghost use Rattle.block_tree.specs.Building.{
   new_building,
@@ -26,7 +26,8 @@ ghost use Rattle.block_tree.specs.Nesting.{
 };
 ghost use Rattle.block_tree.specs.Numbers.{numbers_of};
 ghost use Rattle.block_tree.specs.Builders.{building_of, open_block_of, open_disjunction_of, goal_value_of, goal_made, given_goal};
-ghost use Rattle.block_tree.specs.Sound.{IsWhole};
+ghost use Rattle.block_tree.specs.Scaling.{AreLowest};
+ghost use Rattle.block_tree.specs.Sound.{IsWhole, AreEndsLowest};
 ghost use Rattle.block_tree.specs.Values.{model_tree};
 ghost use Rattle.block_tree.specs.View.{block_of, disjunct_of, disjunction_of};
 
@@ -126,6 +127,7 @@ impl Parts {
     ) -> Result<u32, BuildError>
         ensures acts { Acts BuildError.Memory (building_of self.old) (var_outcome name.now kind bound mark (building_of self.old)) result
             (building_of self.new) }
+        ensures ends { OnOk result (AreEndsLowest bound) }
         ensures counted { self.new.row_total ≡ self.old.row_total }
     {
         if self.opened.is_some() || !self.outer.is_empty() {
@@ -212,6 +214,7 @@ impl Parts {
     ) -> Result<(), BuildError>
         ensures acts { Acts BuildError.Memory (building_of self.old) (goal_outcome sense terms.now constant mark (building_of self.old)) result
             (building_of self.new) }
+        ensures lowest { OnOk result (AreLowest terms.now constant) }
         ensures counted { self.new.row_total ≡ self.old.row_total }
     {
         if !self.is_at_root() || self.goal.is_some() {
@@ -443,9 +446,10 @@ fn stored_goal(
     count: usize,
     mark: u32,
 ) -> Result<Goal, BuildError>
-    ensures { OrMemory BuildError.Memory result
+    ensures value { OrMemory BuildError.Memory result
         (refused_or (refusal_of_terms count terms.now constant.now (refusal_of_scale terms.now constant.now))
         (goal_made sense mark (numbers_of terms.now constant.now))) }
+    ensures lowest { OnOk result (AreLowest terms.now constant.now) }
 {
     let stored = match stored_numbers(alloc, terms, constant, count) {
         Ok(stored) => stored,

@@ -38,9 +38,6 @@ ghost use Rattle.block_tree.specs.Tests.{
   tests_of_vars,
   test_of_row,
   test_of_off,
-  below,
-  below_disjunctions,
-  below_disjuncts,
   tests_of_block,
   tests_of_disjunctions,
   tests_of_disjuncts,
@@ -49,6 +46,7 @@ ghost use Rattle.block_tree.specs.Tests.{
   tests_of,
   Tells,
 };
+ghost use Rattle.block_tree.specs.Tree.{below, below_disjunctions, below_disjuncts};
 ghost use Rattle.block_tree.specs.Values.{model_tree};
 ghost use Rattle.block_tree.specs.View.{
   block_of,

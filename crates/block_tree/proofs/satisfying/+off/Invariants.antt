@@ -1,5 +1,6 @@
 use Rattle.std.proofs.Common.{◌≡◌, false, drop, map, slice_index_or}
-use Rattle.block_tree.specs.Tests.{verdict_of, test_of_off, below_disjunctions, below_disjuncts}
+use Rattle.block_tree.specs.Tests.{verdict_of, test_of_off}
+use Rattle.block_tree.specs.Tree.{below_disjunctions, below_disjuncts}
 use Rattle.block_tree.specs.View.{disjunctions_of, disjuncts_of}
 use Rattle.block_tree.proofs.satisfying.+off.Given as goal
 

@@ -2,7 +2,6 @@ use Rattle.std.proofs.Common.{◌≡◌, refl, sym, ◌∙◌}
 use Rattle.block_tree.specs.declared.errors.BuildError.TheVariants.{Memory}
 use Rattle.block_tree.specs.Builders.{building_of}
 use Rattle.block_tree.specs.Building.{BuildingValue, rows_so_far, var_outcome}
-use Rattle.block_tree.specs.Sound.{IsWhole}
 use Rattle.block_tree.proofs.Keeping.{acts_keep, var_keeps_whole, var_keeps_rows}
 use Rattle.block_tree.proofs.builder.ModelBuilder.var.Goals as goal
 
@@ -11,8 +10,8 @@ invariant_of-self c =
     let b = building_of c.args.self.now.parts in
     let o = var_outcome c.args.name.now c.args.kind c.args.bound c.args.mark b in
     record {
-      whole = acts_keep IsWhole Memory b o c.var.result (building_of c.var.new.self) c.var.ensures.acts c.args.self.now.whole
-          (var_keeps_whole c.args.name.now c.args.kind c.args.bound c.args.mark b c.args.self.now.whole);
+      whole = var_keeps_whole c.args.name.now c.args.kind c.args.bound c.args.mark b (building_of c.var.new.self) c.var.result
+          c.var.ensures.acts c.var.ensures.ends c.args.self.now.whole;
       counted = c.var.ensures.counted ∙ c.args.self.now.counted
           ∙ sym (acts_keep (λ s. rows_so_far s ≡ rows_so_far b) Memory b o c.var.result (building_of c.var.new.self) c.var.ensures.acts refl
           (var_keeps_rows c.args.name.now c.args.kind c.args.bound c.args.mark b));
