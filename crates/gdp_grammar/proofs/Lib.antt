@@ -6,3 +6,5 @@ pub mod Followed
 pub mod Once
 pub mod Grown
 pub mod Worked
+pub mod Threaded
+pub mod PointOnce

@@ -9,6 +9,7 @@ pub mod LineGrammars
 pub mod Lines
 pub mod Numerals
 pub mod PointForms
+pub mod PointLaws
 pub mod PointReading
 pub mod PointSpelling
 pub mod Points

@@ -9,6 +9,7 @@
 pub mod cause;
 pub mod class;
 pub mod laws;
+pub mod point_laws;
 pub mod symbol;
 
 pub use cause::ReadCause;

@@ -1,0 +1,23 @@
+//! The laws of point texts, each the contract of a function with an empty body.
+
+ghost use Rattle.gdp_grammar.specs.PointLaws.{OnePoint, PointOrBad, NeverPointAndBad, OneFirstBadOfPoint};
+
+/// A text spells at most one point of a model.
+pub fn one_point()
+    ensures { OnePoint }
+{}
+
+/// Every text spells a point of the model or has a first bad line.
+pub fn point_or_bad()
+    ensures { PointOrBad }
+{}
+
+/// No text spells a point of the model and has a first bad line.
+pub fn never_point_and_bad()
+    ensures { NeverPointAndBad }
+{}
+
+/// A text has at most one first bad line as a point of the model, with one cause.
+pub fn one_first_bad_of_point()
+    ensures { OneFirstBadOfPoint }
+{}
