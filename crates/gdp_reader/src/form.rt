@@ -38,7 +38,7 @@ pub enum Form<'a> {
 
 /// Whether the word is no name.
 #[tactic(auto, unfolding(block_tree::specs::Names::reserved_words))]
-fn is_reserved(word: &str) -> bool
+pub fn is_reserved(word: &str) -> bool
     ensures { result ≡ is_reserved_word word.now }
 {
     word == "not"

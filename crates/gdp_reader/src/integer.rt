@@ -1,13 +1,11 @@
 //! Whole numbers of a point text.
 
 ghost use Rattle.std.specs.Prelude.{◌≡◌, ◌+◌, ◌-◌, ◌*◌, ◌^◌, ◌≤◌, IfSome, IfNone};
-ghost use Rattle.std.specs.List.{list_all};
-ghost use Rattle.gdp_grammar.specs.Classes.{belongs as belongs_of};
 ghost use Rattle.gdp_grammar.specs.Numerals.{decimal};
-ghost use Rattle.gdp_grammar.specs.Points.{are_digits as are_digits_of, ranged as ranged_of, integer_of};
+ghost use Rattle.gdp_grammar.specs.PointReading.{integer_value as integer_value_of, over_value as over_value_of};
+ghost use Rattle.gdp_reader.specs.PointLines.{integer};
 
-use crate::class::belongs;
-use gdp_grammar::Class;
+use crate::point_form::Integer;
 
 /// The number and one digit more, below 2^128.
 fn push_digit(size: u128, digit: u8) -> Option<u128>
@@ -33,43 +31,28 @@ fn size_of(digits: &[u8]) -> Option<u128>
     Some(size)
 }
 
-/// Whether each byte is a digit.
-fn is_each_digit(word: &[u8]) -> bool
-    ensures { result ≡ list_all (belongs_of Class.Digit) word.now }
+/// The value of a whole number, if it is in the range of `i128`.
+pub fn integer_value(number: &Integer<'_>) -> Option<i128>
+    ensures { result ≡ integer_value_of (integer number.now) }
 {
-    word.iter().all(|byte| belongs(Class::Digit, *byte))
-}
-
-/// Whether the bytes are digits, one at least.
-fn are_digits(word: &[u8]) -> bool
-    ensures { result ≡ are_digits_of word.now }
-{
-    !word.is_empty() && is_each_digit(word)
-}
-
-/// The whole number that digits spell with this sign, if it is in the range of `i128`.
-fn ranged(is_negative: bool, digits: &[u8]) -> Option<i128>
-    ensures { result ≡ ranged_of is_negative digits.now }
-{
-    if !are_digits(digits) {
-        return None;
-    }
-    let Some(size) = size_of(digits) else {
+    let Some(size) = size_of(number.digits) else {
         return None;
     };
-    if is_negative {
+    if number.is_negative {
         return 0i128.checked_sub_unsigned(size);
     }
     0i128.checked_add_unsigned(size)
 }
 
-/// The whole number that a word spells: digits with an optional `-`.
-pub fn integer(word: &[u8]) -> Option<i128>
-    ensures { result ≡ integer_of word.now }
+/// The denominator that digits spell: at least 1 and in the range of `i128`.
+pub fn over_value(digits: &[u8]) -> Option<i128>
+    ensures { result ≡ over_value_of digits.now }
 {
-    match word {
-        [] => None,
-        [b'-', digits @ ..] => ranged(true, digits),
-        _ => ranged(false, word),
+    let Some(size) = size_of(digits) else {
+        return None;
+    };
+    if size == 0 {
+        return None;
     }
+    0i128.checked_add_unsigned(size)
 }

@@ -1,165 +1,149 @@
 //! Reads point texts.
 
-ghost use Rattle.std.specs.Prelude.{◌≡◌, [], List, Bool, false, length, map, Some, None, IfOk, IsErrOf, if◌then◌else◌};
+ghost use Rattle.std.specs.Prelude.{◌≡◌, ◌^◌, ◌-◌, ◌<◌, ◌≤◌, length, List, Bool, IfSome, IfOk, IfErr};
+ghost use Rattle.std.specs.Option.{option_map};
 ghost use Rattle.lp_rows.specs.Points.{PointValue};
 ghost use Rattle.block_tree.specs.Values.{model_tree};
+ghost use Rattle.gdp_grammar.specs.Following.{at_line};
+ghost use Rattle.gdp_grammar.specs.LineGrammars.{follow_by, given_by};
 ghost use Rattle.gdp_grammar.specs.Lines.{lines_of};
-ghost use Rattle.gdp_grammar.specs.Points.{value_in, numbers_in, point_numbers, SpellsPoint};
-ghost use Rattle.gdp_grammar.specs.Words.{words_of};
+ghost use Rattle.gdp_grammar.specs.PointReading.{no_point_taken, all_numbers as all_numbers_of, point_after};
+ghost use Rattle.gdp_grammar.specs.PointSpelling.{point_grammar, SpellsPoint};
+ghost use Rattle.gdp_reader.specs.PointTaking.{point_taken_of, point_parts, IsPointReadAs, IsPointRefused};
+ghost use Rattle.gdp_reader.specs.Taking.{GivesText};
 
-use crate::integer::integer;
+use crate::error::ReadError;
+use crate::fault::LineError;
 use crate::line::first_line;
-use crate::word::{are_words, is_alone, next_word};
-use block_tree::{Bound, Model, ModelPoint};
+use crate::point_taking::PointTaking;
+use block_tree::{Model, ModelPoint};
 use fractions::Memory;
-use gdp_io::Name;
-use lp_rows::{Flags, Kind, Point, PointError};
-use std::alloc::{AllocError, AllocFailed, Global};
+use gdp_grammar::ReadCause;
+use lp_rows::{Flags, Point, PointError};
+use std::alloc::Global;
 
-/// Why a point text isn't read: it is none of the texts that are read today, or memory was wanted.
-#[derive(Clone, Copy, Debug, PartialEq, Eq)]
-pub enum PointRefusal {
-    NotBuilt,
-    Memory,
-}
-
-impl From<Memory> for PointRefusal {
-    ghost use Rattle.std.specs.Prelude.{◌≡◌};
-    ghost use Rattle.gdp_reader.specs.declared.point.PointRefusal.TheVariants as error;
-
-    ghost from_gives = { λ _ e. e ≡ error.Memory };
-
-    fn from(_memory: Memory) -> PointRefusal {
-        PointRefusal::Memory
-    }
-}
-
-impl From<AllocError> for PointRefusal {
-    ghost use Rattle.std.specs.Prelude.{◌≡◌};
-    ghost use Rattle.gdp_reader.specs.declared.point.PointRefusal.TheVariants.{Memory};
-
-    ghost from_gives = { λ _ e. e ≡ Memory };
-
-    fn from(_error: AllocError) -> PointRefusal {
-        PointRefusal::Memory
-    }
-}
-
-impl<T: Drop> From<AllocFailed<T>> for PointRefusal {
-    ghost use Rattle.std.specs.Prelude.{◌≡◌};
-    ghost use Rattle.gdp_reader.specs.declared.point.PointRefusal.TheVariants.{Memory};
-
-    ghost from_gives = { λ _ e. e ≡ Memory };
-
-    fn from(_refused: AllocFailed<T>) -> PointRefusal {
-        PointRefusal::Memory
-    }
-}
-
-/// The number in a line `val NAME N` on this name.
-fn value_on(line: &[u8], name: &[u8]) -> Option<i128>
-    ensures { result ≡ value_in name.now (words_of line.now) }
-{
-    let (word, rest) = next_word(line)?;
-    let (on, rest) = next_word(rest)?;
-    let (number, rest) = next_word(rest)?;
-    if next_word(rest).is_some() {
-        return None;
-    }
-    if word != b"val".as_slice() || on != name {
-        return None;
-    }
-    integer(number)
-}
-
-/// Whether the text is the line `end` alone.
-fn is_end(text: &[u8]) -> bool
-    ensures { numbers_in [] (lines_of text.now) ≡ (if result then Some [] else None) }
-{
-    if text.is_empty() {
-        return false;
-    }
-    let (line, rest) = first_line(text);
-    rest.is_empty() && is_alone(line, b"end")
-}
-
-/// The numbers of these variables, by a line each in order, and then the line `end`.
-fn read_values(
+/// What the lines of a text give, and how many there are.
+fn take_lines<'a>(
     alloc: Global,
-    vars: &[(Name, Kind, Bound, u32)],
+    model: &'a Model,
     text: &[u8],
-) -> Result<Vec<i128>, PointRefusal>
-    ensures read { IfOk result (λ numbers. numbers_in (map (λ v. v.0) vars.now) (lines_of text.now) ≡ Some numbers.items) }
-    ensures sized { IfOk result (λ numbers. length numbers.items ≡ length vars.now) }
-    ensures refused { IsErrOf result PointRefusal.NotBuilt → numbers_in (map (λ v. v.0) vars.now) (lines_of text.now) ≡ None }
+) -> Result<(PointTaking<'a>, u32), ReadError>
+    requires { length text.now < 2 ^ 32 - 1 }
+    ensures taken { GivesText (λ x. point_taken_of x.0) result (follow_by (point_grammar (model_tree model.now)) 1 (no_point_taken (model_tree model.now)) (lines_of text.now)) }
+    ensures model { IfOk result (λ x. x.0.model.now ≡ model.now) }
+    ensures counted { IfOk result (λ x. x.1 ≡ length (lines_of text.now)) }
+    ensures few { IfOk result (λ x. x.1 ≤ length text.now) }
 {
-    let mut numbers = Vec::new(alloc);
-    let mut text = text;
-    'vars: for var in vars {
-        if text.is_empty() {
-            return Err(PointRefusal::NotBuilt);
+    let Ok(mut taking) = PointTaking::new(alloc, model) else {
+        return Err(ReadError::Memory);
+    };
+    let mut rest = text;
+    let mut lines = 0u32;
+    'lines: while !rest.is_empty() {
+        let (first, after) = first_line(rest);
+        lines += 1;
+        match taking.take(first) {
+            Ok(()) => {}
+            Err(LineError::Refused(cause)) => return Err(ReadError::At { line: lines, cause }),
+            Err(LineError::Memory) => return Err(ReadError::Memory),
         }
-        let (line, rest) = first_line(text);
-        let Some(number) = value_on(line, var.0.as_slice()) else {
-            return Err(PointRefusal::NotBuilt);
-        };
-        numbers.push(number)?;
-        text = rest;
+        rest = after;
     }
-    if is_end(text) {
-        return Ok(numbers);
-    }
-    Err(PointRefusal::NotBuilt)
+    Ok((taking, lines))
 }
 
-/// The numbers that a point text gives these variables.
-pub fn read_numbers(
-    alloc: Global,
-    vars: &[(Name, Kind, Bound, u32)],
-    text: &[u8],
-) -> Result<Vec<i128>, PointRefusal>
-    ensures read { IfOk result (λ numbers. point_numbers (map (λ v. v.0) vars.now) (lines_of text.now) ≡ Some numbers.items) }
-    ensures sized { IfOk result (λ numbers. length numbers.items ≡ length vars.now) }
-    ensures refused { IsErrOf result PointRefusal.NotBuilt → point_numbers (map (λ v. v.0) vars.now) (lines_of text.now) ≡ None }
+/// The numbers, where each variable has one.
+fn all_numbers(alloc: Global, numbers: &[Option<i128>]) -> Result<Option<Vec<i128>>, Memory>
+    ensures all { IfOk result (λ all. option_map (λ ns. ns.items) all ≡ all_numbers_of numbers.now) }
+    ensures sized { IfOk result (λ all. IfSome all (λ ns. length ns.items ≡ length numbers.now)) }
 {
-    if text.is_empty() {
-        return Err(PointRefusal::NotBuilt);
+    let mut all = Vec::new(alloc);
+    'numbers: for number in numbers {
+        let Some(number) = number else {
+            return Ok(None);
+        };
+        if all.push(*number).is_err() {
+            return Err(Memory);
+        }
     }
-    let (header, text) = first_line(text);
-    if text.is_empty() {
-        return Err(PointRefusal::NotBuilt);
-    }
-    let (over, text) = first_line(text);
-    if !are_words(header, b"gdp-point", b"1") || !are_words(over, b"over", b"1") {
-        return Err(PointRefusal::NotBuilt);
-    }
-    read_values(alloc, vars, text)
+    Ok(Some(all))
 }
 
-/// Reads a point text of the model.
-pub fn read_point(alloc: Global, model: &Model, text: &[u8]) -> Result<ModelPoint, PointRefusal>
-    ensures found { IfOk result (λ point. SpellsPoint (model_tree model.now) text.now point.at point.truths) }
+/// The point that the lines gave; `line` is the number after the last one's.
+#[tactic(auto, unfolding(gdp_grammar::specs::PointReading::point_after))]
+fn finish(alloc: Global, taking: PointTaking<'_>, line: u32) -> Result<ModelPoint, ReadError>
+    ensures given { GivesText point_parts result (at_line line (point_after (point_taken_of taking.entry))) }
+    ensures numbers { IfOk result (λ point. length point.at.nums ≡ length taking.entry.model.now.vars) }
+    ensures truths { IfOk result (λ point. length point.truths ≡ length taking.entry.model.now.booleans) }
+{
+    if !taking.is_headed {
+        return Err(ReadError::At {
+            line,
+            cause: ReadCause::Header,
+        });
+    }
+    if !taking.is_ended {
+        return Err(ReadError::At {
+            line,
+            cause: ReadCause::Missing,
+        });
+    }
+    let PointTaking {
+        over,
+        numbers,
+        truths,
+        ..
+    } = taking;
+    let Some(over) = over else {
+        return Err(ReadError::At {
+            line,
+            cause: ReadCause::Missing,
+        });
+    };
+    let Ok(nums) = all_numbers(alloc, numbers.as_slice()) else {
+        return Err(ReadError::Memory);
+    };
+    let Some(nums) = nums else {
+        return Err(ReadError::At {
+            line,
+            cause: ReadCause::Missing,
+        });
+    };
+    match Point::make(alloc, over, nums.as_slice()) {
+        Ok(at) => Ok(ModelPoint {
+            at,
+            truths: Flags::from_vec(truths),
+        }),
+        Err(PointError::Over) => unreachable!(),
+        Err(PointError::Memory) => Err(ReadError::Memory),
+    }
+}
+
+/// The point that the lines of a text give, or its first bad line.
+fn read_point_text(alloc: Global, model: &Model, text: &[u8]) -> Result<ModelPoint, ReadError>
+    requires { length text.now < 2 ^ 32 - 1 }
+    ensures given { GivesText point_parts result (given_by (point_grammar (model_tree model.now)) text.now) }
     ensures numbers { IfOk result (λ point. length point.at.nums ≡ length model.now.vars) }
     ensures truths { IfOk result (λ point. length point.truths ≡ length model.now.booleans) }
-    ensures refused { IsErrOf result PointRefusal.NotBuilt → (at : PointValue) (truths : List Bool) → SpellsPoint (model_tree model.now) text.now at truths → ⊥ }
 {
-    let numbers = read_numbers(alloc, model.vars(), text)?;
-    let at = match Point::make(alloc, 1, numbers.as_slice()) {
-        Ok(at) => at,
-        Err(PointError::Over) => return Err(PointRefusal::NotBuilt),
-        Err(PointError::Memory) => return Err(PointRefusal::Memory),
-    };
-    let truths = no_truths(alloc, model.booleans())?;
-    Ok(ModelPoint { at, truths })
+    match take_lines(alloc, model, text) {
+        Ok((taking, lines)) => finish(alloc, taking, lines + 1),
+        Err(error) => Err(error),
+    }
 }
 
-/// A false truth value for each Boolean.
-fn no_truths(alloc: Global, booleans: &[(Name, u32)]) -> Result<Flags, Memory>
-    ensures { IfOk result (λ truths. truths ≡ map (λ b. false) booleans.now) }
+/// The point of the model that a text spells, or its first bad line with its cause.
+pub fn read_point(alloc: Global, model: &Model, text: &[u8]) -> Result<ModelPoint, ReadError>
+    requires { length text.now < 2 ^ 32 - 1 }
+    // What is read is spelled.
+    ensures found { IfOk result (λ point. SpellsPoint (model_tree model.now) text.now point.at point.truths) }
+    // The point has a number for each variable and a truth value for each Boolean.
+    ensures numbers { IfOk result (λ point. length point.at.nums ≡ length model.now.vars) }
+    ensures truths { IfOk result (λ point. length point.truths ≡ length model.now.booleans) }
+    // What is spelled is read, and nothing else, unless memory was wanted.
+    ensures only { (at : PointValue) (truths : List Bool) → SpellsPoint (model_tree model.now) text.now at truths → IsPointReadAs at truths result }
+    // What is refused is the first bad line, with its cause.
+    ensures refused { IfErr result (λ error. IsPointRefused (model_tree model.now) text.now error) }
 {
-    let mut truths = Flags::new(alloc);
-    'booleans: for _boolean in booleans {
-        truths.push(alloc, false)?;
-    }
-    Ok(truths)
+    read_point_text(alloc, model, text)
 }
