@@ -155,7 +155,6 @@ class Model:
 
     def line(self, line, tokens):
         word = tokens.take("word")
-        refuse_if(word == "logic", "NotBuilt")
         at = self.opened[-1]
         in_block, at_root = isinstance(at, Block), len(self.opened) == 1
         if word == "var":
@@ -231,9 +230,11 @@ def read_model(text):
     model, lines, headed = Model(), lines_of(text), False
     for number, line in enumerate(lines, 1):
         try:
-            if headed and words_of(line):
-                model.line(number, Tokens(tokens_of(line)))
-            elif words_of(line):
+            tokens = tokens_of(line)
+            refuse_if(tokens[:1] == [("word", "logic")], "NotBuilt")
+            if headed and tokens:
+                model.line(number, Tokens(tokens))
+            elif tokens:
                 refuse_if(words_of(line) != [b"gdp", b"1"], "Header")
                 headed = True
         except Cause as cause:

@@ -1,5 +1,5 @@
--- A table has at most one answer, and so has `test`.
-use Rattle.std.proofs.Common.{◌≡◌, ℕ, ◌+◌, ℤ, Bool, List, [], ◌∷◌, Result, Ok, Err, Some, sym, ◌∙◌, subst, ap, inl, inr}
+-- A table has at most one answer, and so has each command.
+use Rattle.std.proofs.Common.{◌≡◌, ℕ, Bool, List, Result, Ok, Err, sym, ◌∙◌, subst, ap, inl, inr}
 use Rattle.lp_rows.specs.Points.{PointValue}
 use Rattle.block_tree.specs.declared.errors.Verdict.{Verdict}
 use Rattle.block_tree.specs.declared.errors.Verdict.TheVariants.{Holds, FailsAt}
@@ -7,11 +7,16 @@ use Rattle.block_tree.specs.declared.errors.SumWide.{SumWide}
 use Rattle.block_tree.specs.Satisfied.{point_of}
 use Rattle.block_tree.specs.Tests.{tests_of, verdict_of}
 use Rattle.block_tree.specs.Values.{ModelTree}
-use Rattle.gdp_grammar.specs.Plain.{SpellsPlain}
-use Rattle.gdp_grammar.proofs.Once.{one_model}
+use Rattle.gdp_grammar.specs.declared.cause.ReadCause.{ReadCause}
+use Rattle.gdp_grammar.specs.Canonical.{canonical_text}
+use Rattle.gdp_grammar.proofs.Once.{one_model, never_both, one_first_bad}
+use Rattle.gdp_grammar.proofs.PointOnce.{one_point, never_point_and_bad, one_first_bad_of_point}
 use Rattle.gdp_cli.specs.declared.status.Status.{Status}
-use Rattle.gdp_cli.specs.Table.{Rows, Row, Last, With, IsOne}
-use Rattle.gdp_cli.specs.Test.{IsPoint, VerdictSays, TestSays}
+use Rattle.gdp_cli.specs.declared.status.Status.TheVariants.{Done}
+use Rattle.gdp_cli.specs.Format.{FormatSays}
+use Rattle.gdp_cli.specs.Table.{Rows, Row, Last, With, Read, IsOne}
+use Rattle.gdp_cli.specs.Test.{VerdictSays, TestSays}
+use Rattle.gdp_cli.specs.Texts.{IsPoint, ModelSays, PointSays}
 
 one_last : (status : Status) (text : List ℕ) → IsOne (Last status text)
 one_last status text s s' t t' a b = (a.0 ∙ sym b.0, a.1 ∙ sym b.1)
@@ -26,32 +31,45 @@ one_with : {A : Type 0} (is : A → Type 0) (below : A → Rows) → ((x y : A) 
 one_with is below same one s s' t t' a b =
     one b.0 s s' t t' (subst (λ (x : _). below x s t) (same a.0 b.0 a.1 b.1) a.2) b.2
 
+-- What is read is one thing, or bad at one line for one cause, and not both.
+one_read : {A : Type 0} (is_bad : ℕ → ReadCause → Type 0) (status : Status) (message : ℕ → ReadCause → List ℕ) (is : A → Type 0) (below : A → Rows) →
+    ((line line' : ℕ) (cause cause' : ReadCause) → is_bad line cause → is_bad line' cause' → (line ≡ line') × (cause ≡ cause')) →
+    ((x : A) (line : ℕ) (cause : ReadCause) → is x → ¬ is_bad line cause) →
+    ((x y : A) → is x → is y → x ≡ y) → ((x : A) → IsOne (below x)) → IsOne (Read is_bad status message is below)
+one_read is_bad status message is below bad never same one s s' t t' (inl a) (inl b) =
+    let both : (a.0 ≡ b.0) × (a.1 ≡ b.1) = bad a.0 b.0 a.1 b.1 a.2 b.2 in
+    (a.3 ∙ sym b.3, a.4 ∙ ap (λ (line : ℕ). message line a.1) both.0 ∙ ap (λ (cause : ReadCause). message b.0 cause) both.1 ∙ sym b.4)
+one_read is_bad status message is below bad never same one s s' t t' (inl a) (inr b) = absurd (never b.0 a.0 a.1 b.1 a.2)
+one_read is_bad status message is below bad never same one s s' t t' (inr a) (inl b) = absurd (never a.0 b.0 b.1 a.1 b.2)
+one_read is_bad status message is below bad never same one s s' t t' (inr a) (inr b) = one_with is below same one s s' t t' a b
+
 one_verdict : (verdict : Result Verdict SumWide) → IsOne (VerdictSays verdict)
 one_verdict (Ok Holds) = one_last _ _
 one_verdict (Ok (FailsAt mark)) = one_last _ _
 one_verdict (Err wide) = one_last _ _
 
--- a text spells at most one model
-spells_one : (text : List ℕ) (m m' : ModelTree) → SpellsPlain text m → SpellsPlain text m' → m ≡ m'
-spells_one text m m' a b = one_model text m m' a.spells b.spells
+one_of_model : (name text : List ℕ) (below : ModelTree → Rows) → ((m : ModelTree) → IsOne (below m)) → IsOne (ModelSays name text below)
+one_of_model name text below one = one_read _ _ _ _ _ (one_first_bad text) (never_both text) (one_model text) one
 
--- and at most one point of a model
-abbrev with_parts : ℤ → List ℤ → List Bool → PointValue × List Bool
-with_parts over nums truths = (record { over = over; nums = nums }, truths)
+-- a text spells at most one point of a model
+same_point : (m : ModelTree) (text : List ℕ) (p q : PointValue × List Bool) → IsPoint m text p → IsPoint m text q → p ≡ q
+same_point m text p q a b =
+    let both : (p.0 ≡ q.0) × (p.1 ≡ q.1) = one_point m text p.0 q.0 p.1 q.1 a b in
+    ap (λ (at : PointValue). pair at p.1) both.0 ∙ ap (λ (truths : List Bool). pair q.0 truths) both.1
+  where
+    pair : PointValue → List Bool → PointValue × List Bool
+    pair at truths = (at, truths)
 
-point_same : (p p' : PointValue × List Bool) → p.0.over ≡ p'.0.over → p.0.nums ≡ p'.0.nums → p.1 ≡ p'.1 → p ≡ p'
-point_same p p' over nums truths =
-    ap (λ (o : ℤ). with_parts o p.0.nums p.1) over ∙ ap (λ (n : List ℤ). with_parts p'.0.over n p.1) nums
-    ∙ ap (λ (t : List Bool). with_parts p'.0.over p'.0.nums t) truths
-
-point_one : (m : ModelTree) (text : List ℕ) (p p' : PointValue × List Bool) → IsPoint m text p → IsPoint m text p' → p ≡ p'
-point_one m text p p' a b =
-    let nums : Some p.0.nums ≡ Some p'.0.nums = sym a.numbers ∙ b.numbers in
-    let same : p.0.nums ≡ p'.0.nums = cc nums in
-    point_same p p' (a.over ∙ sym b.over) same (a.no_truth ∙ sym b.no_truth)
+one_of_point : (m : ModelTree) (name text : List ℕ) (below : PointValue × List Bool → Rows) → ((p : PointValue × List Bool) → IsOne (below p)) → IsOne (PointSays m name text below)
+one_of_point m name text below one =
+    one_read _ _ _ _ _ (one_first_bad_of_point m text) (λ p line cause. never_point_and_bad m text p.0 p.1 line cause) (same_point m text) one
 
 pub one_test : (model point model_text point_text : List ℕ) → IsOne (TestSays model point model_text point_text)
 one_test model point model_text point_text =
-    one_row _ _ _ _ (one_row _ _ _ _ (one_row _ _ _ _
-    (one_with _ _ (spells_one model_text) (λ m.
-    one_row _ _ _ _ (one_with _ _ (point_one m point_text) (λ p. one_verdict (verdict_of (tests_of m (point_of p.0 p.1)))))))))
+    one_row _ _ _ _ (one_row _ _ _ _ (
+    one_of_model model model_text _ (λ m.
+    one_of_point m point point_text _ (λ p. one_verdict (verdict_of (tests_of m (point_of p.0 p.1)))))))
+
+pub one_format : (model model_text : List ℕ) → IsOne (FormatSays model model_text)
+one_format model model_text =
+    one_row _ _ _ _ (one_of_model model model_text _ (λ m. one_last Done (canonical_text m)))

@@ -1,9 +1,11 @@
 pub mod Answers
 pub mod Command
+pub mod Format
 pub mod Messages
 pub mod Replies
 pub mod Statuses
 pub mod Streams
 pub mod Table
 pub mod Test
+pub mod Texts
 pub mod Words

@@ -64,6 +64,7 @@ fn judge_point(
     point: &str,
     point_text: &Text,
 ) -> Result<Reply, Memory>
+    requires within { ¬ IsLong point_text.now }
     ensures worked { IfOk result (λ reply. IsWorked reply.status) }
     ensures says { IfOk result (λ reply. PointSays (model_tree model.now) point.now point_text.now (TestedSays (model_tree model.now)) reply.status reply.text) }
 {

@@ -50,9 +50,9 @@ fn tests_points(rt: HostRuntime) {
         (MODEL, b"3", Status::Done, b"holds\n", b""),
         (MODEL, b"4", Status::No, b"fails at line 3\n", b""),
         (MODEL, b"11", Status::No, b"fails at line 2\n", b""),
-        (half, b"3", Status::Text, b"", b"M: not built\n"),
-        (MODEL, b"x", Status::Text, b"", b"P: not built\n"),
-        (b"", b"3", Status::Text, b"", b"M: not built\n"),
+        (half, b"3", Status::Done, b"holds\n", b""),
+        (MODEL, b"x", Status::Text, b"", b"P: line 3: Form\n"),
+        (b"", b"3", Status::Text, b"", b"M: line 1: Header\n"),
         (
             wide,
             b"170141183460469231731687303715884105727",
@@ -155,7 +155,7 @@ fn tells_faults_and_faulty_words(rt: HostRuntime) {
             0,
             Status::Text,
             b"",
-            b"M: not built\n",
+            b"M: line 1: Header\n",
         ),
         (&["test", "M"], 0, 0, 0, Status::Words, b"", refused),
         (
@@ -182,6 +182,73 @@ fn tells_faults_and_faulty_words(rt: HostRuntime) {
     }
 }
 
+/// A choice within a choice.
+const NESTED: &[u8] = b"gdp 1\nvar x real 0 10\ndisjunction xor\ndisjunct a\ndisjunction xor\ndisjunct c\nrow x <= 7\nend\ndisjunct d\nrow x >= 8\nend\nend\nend\ndisjunct b\nend\nend\n";
+
+/// A choice of one or both.
+const EITHER: &[u8] = b"gdp 1\nvar x real 0 10\ndisjunction or\ndisjunct a\nrow x <= 7\nend\ndisjunct b\nrow x >= 3\nend\nend\n";
+
+#[test]
+fn tests_choices(rt: HostRuntime) {
+    // The model, the lines of the point after its denominator, and what is answered.
+    let rows: [(&[u8], &[u8], Status, &[u8]); 4] = [
+        (
+            NESTED,
+            b"val x 5\non c\non b\n",
+            Status::No,
+            b"fails at line 6\n",
+        ),
+        (NESTED, b"val x 5\non b\n", Status::Done, b"holds\n"),
+        (
+            EITHER,
+            b"val x 5\non a\non b\n",
+            Status::Done,
+            b"holds\n",
+        ),
+        (
+            EITHER,
+            b"val x 2\non a\non b\n",
+            Status::No,
+            b"fails at line 8\n",
+        ),
+    ];
+    for (model, lines, status, on_out) in rows {
+        let mut point = Text::from_slice(rt.alloc(), b"gdp-point 1\nover 1\n").expect(&rt, "memory");
+        point.append(rt.alloc(), lines).expect(&rt, "memory");
+        point.append(rt.alloc(), b"end\n").expect(&rt, "memory");
+        let given = Given {
+            model,
+            point: point.as_slice(),
+            shelf_fails: 0,
+            out_fails: 0,
+            err_fails: 0,
+        };
+        expect(&rt, &["test", "M", "P"], &given, status, on_out, b"");
+    }
+}
+
+/// Formats a model, and compares what is answered.
+fn expect_format(rt: &(impl AllocGlobal + Abort), model: &[u8], fails: u32, status: Status, on_out: &[u8], on_err: &[u8]) {
+    let given = Given {
+        model,
+        point: b"",
+        shelf_fails: 0,
+        out_fails: fails,
+        err_fails: 0,
+    };
+    expect(rt, &["format", "M"], &given, status, on_out, on_err);
+}
+
+#[test]
+fn formats_models(rt: HostRuntime) {
+    let plain = b"gdp 1\nvar x real 0 10\nmin 0\nrow 2 x <= 7\n";
+    expect_format(&rt, MODEL, 0, Status::Done, plain, b"");
+    expect_format(&rt, plain, 0, Status::Done, plain, b"");
+    expect_format(&rt, MODEL, 2, Status::Write, b"gdp 1\nva", b"write fault\n");
+    let scaled = b"gdp 1\nvar x real 0 10\nrow 1000000000000001 x <= 1\n";
+    expect_format(&rt, scaled, 0, Status::Text, b"", b"M: line 3: Number\n");
+}
+
 /// A text of so many blanks.
 fn blanks(rt: &(impl AllocGlobal + Abort), count: usize) -> Vec<u8> {
     vec![in rt.alloc(); b' '; count].expect(rt, "memory")
@@ -198,8 +265,8 @@ fn tells_texts_that_are_too_long(rt: HostRuntime) {
         (long, b"", b"M: too long\n"),
         (long, long, b"M: too long\n"),
         (b"", long, b"P: too long\n"),
-        (most, b"", b"M: not built\n"),
-        (MODEL, most, b"P: not built\n"),
+        (most, b"", b"M: line 2: Header\n"),
+        (MODEL, most, b"P: line 2: Header\n"),
     ];
     for (model, point, on_err) in rows {
         let given = Given {
