@@ -26,13 +26,13 @@ rest_newline b bs e = cond-false (not (eqb b 10)) _ _ (ap not e)
 rest_other : (b : ℕ) (bs : List ℕ) → eqb b 10 ≡ false → rest class.Line (b ∷ bs) ≡ rest class.Line bs
 rest_other b bs e = cond-true (not (eqb b 10)) _ _ (ap not e)
 
-lines_newline : (b : ℕ) (bs : List ℕ) → eqb b 10 ≡ true → lines_of (b ∷ bs) ≡ [] ∷ lines_of bs
+pub lines_newline : (b : ℕ) (bs : List ℕ) → eqb b 10 ≡ true → lines_of (b ∷ bs) ≡ [] ∷ lines_of bs
 lines_newline b bs e = cond-true (eqb b 10) _ _ e
 
-lines_return : (b : ℕ) (bs : List ℕ) → eqb b 10 ≡ false → (newline_next bs && eqb b 13) ≡ true → lines_of (b ∷ bs) ≡ lines_of bs
+pub lines_return : (b : ℕ) (bs : List ℕ) → eqb b 10 ≡ false → (newline_next bs && eqb b 13) ≡ true → lines_of (b ∷ bs) ≡ lines_of bs
 lines_return b bs e r = cond-false (eqb b 10) _ _ e ∙ cond-true (newline_next bs && eqb b 13) _ _ r
 
-lines_other : (b : ℕ) (bs : List ℕ) → eqb b 10 ≡ false → (newline_next bs && eqb b 13) ≡ false → lines_of (b ∷ bs) ≡ onto_first b (lines_of bs)
+pub lines_other : (b : ℕ) (bs : List ℕ) → eqb b 10 ≡ false → (newline_next bs && eqb b 13) ≡ false → lines_of (b ∷ bs) ≡ onto_first b (lines_of bs)
 lines_other b bs e r = cond-false (eqb b 10) _ _ e ∙ cond-false (newline_next bs && eqb b 13) _ _ r
 
 last_at : (b c : ℕ) (cs : List ℕ) → rest class.Line (b ∷ c ∷ cs) ≡ [] → (rest class.Line (c ∷ cs) ≡ [] → lines_of (c ∷ cs) ≡ front class.Line (c ∷ cs) ∷ []) → lines_of (b ∷ c ∷ cs) ≡ front class.Line (b ∷ c ∷ cs) ∷ []

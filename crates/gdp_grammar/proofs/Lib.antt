@@ -8,3 +8,4 @@ pub mod Grown
 pub mod Worked
 pub mod Threaded
 pub mod PointOnce
+pub mod Fed

@@ -137,9 +137,9 @@ pub bad_given_by : {T A : Type 0} (g : LineGrammar T A) (text : List ℕ) (line 
 bad_given_by {T} g text line cause (inl b) =
     ap (λ (r : Result T (ℕ × ReadCause)). then_on r (λ taken. at_line (length (lines_of text) + 1) (g.finish taken)))
     (ap (follow_by g 1 g.start) b.cut
-        ∙ follow_front g 1 g.start b.taken b.before (b.bad ∷ b.after) b.leads
-        ∙ ap (λ (n : ℕ). follow_by g n b.taken (b.bad ∷ b.after)) (omega (arith, b.number))
-        ∙ ap (λ (r : Result T ReadCause). then_on (at_line line r) (λ next. follow_by g (line + 1) next b.after)) b.fails)
+    ∙ follow_front g 1 g.start b.taken b.before (b.bad ∷ b.after) b.leads
+    ∙ ap (λ (n : ℕ). follow_by g n b.taken (b.bad ∷ b.after)) (omega (arith, b.number))
+    ∙ ap (λ (r : Result T ReadCause). then_on (at_line line r) (λ next. follow_by g (line + 1) next b.after)) b.fails)
 bad_given_by {T} {A} g text line cause (inr b) =
     ap (λ (r : Result T (ℕ × ReadCause)). then_on r (λ taken. at_line (length (lines_of text) + 1) (g.finish taken))) (follows_by g 1 g.start b.taken (lines_of text) b.leads)
     ∙ ap (at_line (length (lines_of text) + 1)) b.fails

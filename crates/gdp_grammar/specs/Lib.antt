@@ -1,6 +1,7 @@
 pub mod Causes
 pub mod Classes
 pub mod Declaring
+pub mod Feeding
 pub mod Following
 pub mod Forms
 pub mod Keywords

@@ -8,6 +8,7 @@
 
 pub mod cause;
 pub mod class;
+pub mod feeding;
 pub mod laws;
 pub mod point_laws;
 pub mod symbol;
