@@ -10,7 +10,7 @@ use Rattle.block_tree.specs.Satisfied.{point_of}
 use Rattle.block_tree.specs.Tests.{tests_of, verdict_of}
 use Rattle.block_tree.specs.Values.{ModelTree}
 use Rattle.gdp_grammar.specs.declared.cause.ReadCause.{ReadCause}
-use Rattle.gdp_grammar.specs.PointSpelling.{SpellsPoint, IsFirstBadOfPoint}
+use Rattle.gdp_grammar.specs.Points.{SpellsPoint, IsFirstBadOfPoint}
 use Rattle.gdp_grammar.specs.Spelling.{Spells, IsFirstBad}
 use Rattle.gdp_cli.specs.declared.messages.Reply.{Reply}
 use Rattle.gdp_cli.specs.declared.status.Status.TheVariants.{Text}

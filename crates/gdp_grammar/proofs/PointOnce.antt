@@ -5,7 +5,7 @@ use Rattle.block_tree.specs.Values.{ModelTree}
 use Rattle.gdp_grammar.specs.declared.cause.ReadCause.{ReadCause}
 use Rattle.gdp_grammar.specs.LineGrammars.{given_by}
 use Rattle.gdp_grammar.specs.PointLaws.{OnePoint, PointOrBad, NeverPointAndBad, OneFirstBadOfPoint}
-use Rattle.gdp_grammar.specs.PointSpelling.{point_grammar, SpellsPoint, IsFirstBadOfPoint}
+use Rattle.gdp_grammar.specs.Points.{point_grammar, SpellsPoint, IsFirstBadOfPoint}
 use Rattle.gdp_grammar.proofs.Threaded.{given_spelled, spelled_by, first_bad_by, bad_given_by}
 
 pub one_point : OnePoint

@@ -12,7 +12,6 @@ pub mod Numerals
 pub mod PointForms
 pub mod PointLaws
 pub mod PointReading
-pub mod PointSpelling
 pub mod Points
 pub mod Reading
 pub mod Spelling

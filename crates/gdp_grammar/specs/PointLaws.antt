@@ -3,7 +3,7 @@ use Rattle.std.specs.Prelude.{◌≡◌, ◌⊎◌, ℕ, Bool, List, length}
 use Rattle.lp_rows.specs.Points.{PointValue}
 use Rattle.block_tree.specs.Values.{ModelTree}
 use Rattle.gdp_grammar.specs.declared.cause.ReadCause.{ReadCause}
-use Rattle.gdp_grammar.specs.PointSpelling.{SpellsPoint, IsFirstBadOfPoint}
+use Rattle.gdp_grammar.specs.Points.{SpellsPoint, IsFirstBadOfPoint}
 
 -- a text spells at most one point of a model
 abbrev pub OnePoint : Type 0

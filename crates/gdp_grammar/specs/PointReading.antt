@@ -10,9 +10,8 @@ use Rattle.gdp_grammar.specs.Causes.{◌>>=◌, refuse_if}
 use Rattle.gdp_grammar.specs.Lines.{without_comment}
 use Rattle.gdp_grammar.specs.Numerals.{decimal}
 use Rattle.gdp_grammar.specs.PointForms.{Integer, PointForm, Over, Val, On, End, point_form_of}
-use Rattle.gdp_grammar.specs.Points.{are_words}
 use Rattle.gdp_grammar.specs.Reading.{or_cause}
-use Rattle.gdp_grammar.specs.Words.{words_of}
+use Rattle.gdp_grammar.specs.Words.{words_of, are_words}
 
 -- What the lines so far gave: whether the header was among them, the denominator, the number of each variable that has
 -- its line, which Booleans are true, and whether the line `end` was among them.

@@ -5,7 +5,7 @@ use Rattle.lp_rows.specs.Points.{PointValue}
 use Rattle.block_tree.specs.declared.points.ModelPoint.{ModelPoint}
 use Rattle.block_tree.specs.Values.{ModelTree}
 use Rattle.gdp_grammar.specs.LineGrammars.{given_by}
-use Rattle.gdp_grammar.specs.PointSpelling.{point_grammar, SpellsPoint}
+use Rattle.gdp_grammar.specs.Points.{point_grammar, SpellsPoint}
 use Rattle.gdp_grammar.proofs.Threaded.{spelled_by, given_spelled, first_bad_by}
 use Rattle.gdp_reader.specs.declared.error.ReadError.{ReadError}
 use Rattle.gdp_reader.specs.declared.error.ReadError.TheVariants.{At, Memory}

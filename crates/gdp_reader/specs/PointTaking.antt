@@ -4,7 +4,7 @@ use Rattle.lp_rows.specs.Points.{PointValue}
 use Rattle.block_tree.specs.declared.points.ModelPoint.{ModelPoint}
 use Rattle.block_tree.specs.Values.{ModelTree}
 use Rattle.gdp_grammar.specs.PointReading.{PointTaken}
-use Rattle.gdp_grammar.specs.PointSpelling.{IsFirstBadOfPoint}
+use Rattle.gdp_grammar.specs.Points.{IsFirstBadOfPoint}
 use Rattle.gdp_reader.specs.declared.error.ReadError.{ReadError}
 use Rattle.gdp_reader.specs.declared.error.ReadError.TheVariants.{At, Memory}
 use Rattle.gdp_reader.specs.declared.point_taking.PointTaking.{PointTaking}

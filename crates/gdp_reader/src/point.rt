@@ -8,7 +8,7 @@ ghost use Rattle.gdp_grammar.specs.Following.{at_line};
 ghost use Rattle.gdp_grammar.specs.LineGrammars.{follow_by, given_by};
 ghost use Rattle.gdp_grammar.specs.Lines.{lines_of};
 ghost use Rattle.gdp_grammar.specs.PointReading.{no_point_taken, all_numbers as all_numbers_of, point_after};
-ghost use Rattle.gdp_grammar.specs.PointSpelling.{point_grammar, SpellsPoint};
+ghost use Rattle.gdp_grammar.specs.Points.{point_grammar, SpellsPoint};
 ghost use Rattle.gdp_reader.specs.PointTaking.{point_taken_of, point_parts, IsPointReadAs, IsPointRefused};
 ghost use Rattle.gdp_reader.specs.Taking.{GivesText};
 

@@ -2,8 +2,7 @@
 
 ghost use Rattle.std.specs.Prelude.{◌≡◌, ◌↔◌, [], ◌∷◌, IsTrue};
 ghost use Rattle.std.specs.Option.{MatchOption};
-ghost use Rattle.gdp_grammar.specs.Points.{are_words as are_words_of, is_alone as is_alone_of};
-ghost use Rattle.gdp_grammar.specs.Words.{words_of};
+ghost use Rattle.gdp_grammar.specs.Words.{words_of, are_words as are_words_of};
 
 use crate::class::split_front;
 use gdp_grammar::Class;
@@ -40,17 +39,4 @@ pub fn are_words(line: &[u8], first: &[u8], second: &[u8]) -> bool
         return false;
     }
     one == first && other == second
-}
-
-/// Whether this is the line's only word.
-pub fn is_alone(line: &[u8], word: &[u8]) -> bool
-    ensures { result ≡ is_alone_of (words_of line.now) word.now }
-{
-    let Some((one, rest)) = next_word(line) else {
-        return false;
-    };
-    if next_word(rest).is_some() {
-        return false;
-    }
-    one == word
 }

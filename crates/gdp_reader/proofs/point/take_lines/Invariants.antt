@@ -3,7 +3,7 @@ use Rattle.block_tree.specs.Values.{model_tree}
 use Rattle.gdp_grammar.specs.LineGrammars.{follow_by}
 use Rattle.gdp_grammar.specs.Lines.{lines_of}
 use Rattle.gdp_grammar.specs.PointReading.{no_point_taken}
-use Rattle.gdp_grammar.specs.PointSpelling.{point_grammar}
+use Rattle.gdp_grammar.specs.Points.{point_grammar}
 use Rattle.gdp_reader.specs.PointTaking.{point_taken_of}
 use Rattle.gdp_reader.proofs.point.take_lines.Given as goal
 
