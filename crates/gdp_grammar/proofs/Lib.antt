@@ -9,3 +9,4 @@ pub mod Worked
 pub mod Threaded
 pub mod PointOnce
 pub mod Fed
+pub mod Lowest

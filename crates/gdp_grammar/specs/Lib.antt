@@ -1,3 +1,4 @@
+pub mod Canonical
 pub mod Causes
 pub mod Classes
 pub mod Declaring
@@ -8,6 +9,7 @@ pub mod Keywords
 pub mod Laws
 pub mod LineGrammars
 pub mod Lines
+pub mod Lowest
 pub mod Numerals
 pub mod PointForms
 pub mod PointLaws
