@@ -10,3 +10,4 @@ pub mod Threaded
 pub mod PointOnce
 pub mod Fed
 pub mod Lowest
+pub mod Printed

@@ -6,7 +6,7 @@ use Rattle.std.proofs.lemmas.Bool.{cond-true, cond-false, cases_eq}
 use Rattle.std.proofs.lemmas.Bool.Decides.{nat_tests}
 use Rattle.std.proofs.lemmas.Int.{ints}
 use Rattle.std.proofs.lemmas.Nat.Gcd.{le_of_dvd, dvd_antisymm, IsGcd-swap}
-use Rattle.std.proofs.Math.Nat.{one-dvd, pos_of_dvd_of_pos, div-mul-cancel}
+use Rattle.std.proofs.Math.Nat.{one-dvd, pos_of_dvd_of_pos, div-mul_cancel, div-le_self}
 use Rattle.int_linear.proofs.Divisors.{has_gcd, ScaledGcd}
 use Rattle.fractions.specs.Fraction.{Fraction, IsReduced, fraction_fits}
 use Rattle.fractions.specs.Width.{fits}
@@ -14,6 +14,7 @@ use Rattle.fractions.proofs.Reduction.{reduced_over, reduced_same}
 use Rattle.block_tree.specs.Scaling.{is_multiple}
 use Rattle.block_tree.proofs.Multiples.{divides, is_divided}
 use Rattle.gdp_grammar.specs.Lowest.{greatest_divisor, common_divisor, signed_as, over}
+use Rattle.int_linear.proofs.Ring.{neg_mul}
 use Rattle.gdp_grammar.proofs.Cutting.{told}
 
 -- what the search down from k finds: a common divisor that no other up to k exceeds
@@ -67,20 +68,40 @@ greatest_is_gcd a b some =
 
 -- a number over one of its divisors, times that divisor
 signed_times : (number : ℤ) (d : ℕ) → 0 < d → d ∣ unsigned_abs number → signed_as number (unsigned_abs number / d) *ℤ pos d ≡ number
-signed_times (pos n) d some p = ap pos (div-mul-cancel p)
-signed_times (negsuc n) d some p =
-    let whole : suc n / d * d ≡ suc n = div-mul-cancel p in
-    back (suc n / d) d n whole
-  where
-    back : (q d n : ℕ) → q * d ≡ suc n → neg_ℤ (pos q) *ℤ pos d ≡ negsuc n
-    back zero d n e = absurd (omega (arith, e))
-    back (suc q) d n e = ?
+signed_times (pos n) d some p = ap pos (div-mul_cancel d p)
+signed_times (negsuc n) d some p = neg_mul (pos (suc n / d)) (pos d) ∙ ap (λ x. neg_ℤ (pos x)) (div-mul_cancel d p)
 
 pub over_reduced : (scale number : ℤ) → pos 0 <ℤ scale → IsReduced number scale (over scale number)
-over_reduced scale number positive = ?
+over_reduced (pos zero) number positive = absurd (omega (arith, ints, positive))
+over_reduced (negsuc s) number positive = absurd (omega (arith, ints, positive))
+over_reduced (pos (suc s)) number positive =
+    let g : ℕ = common_divisor number (pos (suc s)) in
+    let gcd : IsGcd (unsigned_abs number) (suc s) g = greatest_is_gcd (unsigned_abs number) (suc s) (omega arith) in
+    let some : 0 < g = pos_of_dvd_of_pos gcd.1 (omega arith) in
+    let other : pos (suc s) ≢ pos 0 = λ e. absurd (omega (arith, ints, e)) in
+    reduced_over number (pos (suc s)) (signed_as number (unsigned_abs number / g)) (pos (suc s / g)) (pos g) other
+    (IsGcd-swap (unsigned_abs number) (suc s) g gcd)
+    (λ up. omega (arith, ints, some)) (λ down. absurd (omega (arith, ints, down)))
+    (signed_times number g some gcd.0)
+    (ap pos (div-mul_cancel g gcd.1))
+
+fits_natural : (n most : ℕ) → n ≤ most → most < 2 ^ 127 → fits (pos n) ≡ true
+fits_natural n most le lt = grind (arith, nat_tests)
+
+fits_negative : (n most : ℕ) → n ≤ suc most → most < 2 ^ 127 → fits (neg_ℤ (pos n)) ≡ true
+fits_negative zero most le lt = grind (arith, nat_tests)
+fits_negative (suc n) most le lt = grind (arith, nat_tests)
+
+fits_signed : (number : ℤ) (d : ℕ) → FitsSigned w128 number → fits (signed_as number (unsigned_abs number / d)) ≡ true
+fits_signed (pos n) d h = let s = h.sfits in fits_natural (n / d) n (div-le_self n d) (omega (arith, s))
+fits_signed (negsuc n) d h = let s = h.sfits in fits_negative (suc n / d) n (div-le_self (suc n) d) (omega (arith, s))
 
 pub over_fits : (scale number : ℤ) → pos 0 <ℤ scale → FitsSigned w128 scale → FitsSigned w128 number → fraction_fits (over scale number) ≡ true
-over_fits scale number positive s n = ?
+over_fits (pos s) number positive f h =
+    let t = f.sfits in
+    let den : fits (pos (s / common_divisor number (pos s))) ≡ true = fits_natural (s / common_divisor number (pos s)) s (div-le_self s (common_divisor number (pos s))) (omega (arith, t)) in
+    ap (λ x. x && fits (pos (s / common_divisor number (pos s)))) (fits_signed number (common_divisor number (pos s)) h) ∙ den
+over_fits (negsuc s) number positive f h = absurd (omega (arith, ints, positive))
 
 -- the fraction that a quotient is in lowest terms
 pub over_only : (scale number : ℤ) (f : Fraction) → pos 0 <ℤ scale → IsReduced number scale f → f ≡ over scale number

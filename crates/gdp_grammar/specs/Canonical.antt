@@ -13,9 +13,10 @@ use Rattle.lp_rows.specs.Rows.{RowValue}
 use Rattle.block_tree.specs.declared.tree.Mode.{Mode}
 use Rattle.block_tree.specs.declared.tree.Mode.TheVariants.{Xor, Or}
 use Rattle.block_tree.specs.Tests.{below}
-use Rattle.block_tree.specs.Tree.{BlockTree, block, Disjunctions, no_disjunctions, disjunction, Disjuncts, no_disjuncts, disjunct}
+use Rattle.block_tree.specs.Tree.{DisjunctHead, BlockTree, block, Disjunctions, no_disjunctions, disjunction, Disjuncts, no_disjuncts, disjunct}
 use Rattle.block_tree.specs.Values.{GoalValue, ModelTree}
 use Rattle.block_tree.specs.Variables.{VarValue, BooleanValue}
+use Rattle.block_tree.specs.View.{DisjunctTree, DisjunctionTree}
 use Rattle.gdp_grammar.specs.Lowest.{over}
 
 -- words with a blank before each
@@ -148,9 +149,20 @@ abbrev mutual
   disjuncts_lines m (disjunct head b js) =
       disjunct_line m head.indicator ∷ block_lines m b ++ codes "end" ∷ disjuncts_lines m js
 
+-- the lines of one disjunction, and of one disjunct
+abbrev pub lines_of_disjunction : ModelTree → DisjunctionTree → List (List ℕ)
+lines_of_disjunction m d = disjunction_line d.0.mode ∷ disjuncts_lines m d.1 ++ codes "end" ∷ []
+
+abbrev pub lines_of_disjunct : ModelTree → DisjunctTree → List (List ℕ)
+lines_of_disjunct m j = disjunct_line m j.0.indicator ∷ block_lines m j.1 ++ codes "end" ∷ []
+
+-- the numbers of these indicators
+abbrev pub numbers_of : List DisjunctHead → List ℕ
+numbers_of heads = map (λ head. head.indicator) heads
+
 -- the numbers of the Booleans that are indicators: those of the disjuncts in a block and below it
 abbrev pub indicators : BlockTree → List ℕ
-indicators b = map (λ head. head.indicator) (below b)
+indicators b = numbers_of (below b)
 
 -- of these Booleans, the first of which has this number, those that are none of the indicators
 abbrev pub free_from : ℕ → List ℕ → List BooleanValue → List BooleanValue

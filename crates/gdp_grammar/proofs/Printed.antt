@@ -1,0 +1,53 @@
+-- Texts and lines, part by part.
+use Rattle.std.proofs.Common.{◌≡◌, ℕ, ◌+◌, List, [], ◌∷◌, ◌++◌, length, get_or, drop, map, drop-cons, add-one, append_assoc, suc, refl, ap, sym, ◌∙◌, arith, ◌<◌, codes}
+use Rattle.fractions.specs.Fraction.{Fraction}
+use Rattle.block_tree.specs.declared.tree.Disjunct.{Disjunct}
+use Rattle.block_tree.specs.declared.tree.Disjunction.{Disjunction}
+use Rattle.block_tree.specs.Tree.{DisjunctHead}
+use Rattle.std.proofs.lemmas.List.{map-append}
+use Rattle.block_tree.specs.Tests.{below, below_disjunctions, below_disjuncts}
+use Rattle.block_tree.specs.Values.{ModelTree}
+use Rattle.block_tree.specs.View.{disjuncts_of, disjunctions_of, disjunct_of, disjunction_of}
+use Rattle.gdp_grammar.specs.Canonical.{spaced, text_of, sum_words, disjunctions_lines, disjuncts_lines, lines_of_disjunction, lines_of_disjunct, disjunction_line, disjunct_line, block_lines, numbers_of}
+
+pub text_appended : (xs ys : List (List ℕ)) → text_of (xs ++ ys) ≡ text_of xs ++ text_of ys
+text_appended [] ys = refl
+text_appended (x ∷ xs) ys = ap (λ t. x ++ 10 ∷ t) (text_appended xs ys) ∙ sym (append_assoc x (10 ∷ text_of xs) (text_of ys))
+
+pub spaced_appended : (xs ys : List (List ℕ)) → spaced (xs ++ ys) ≡ spaced xs ++ spaced ys
+spaced_appended [] ys = refl
+spaced_appended (x ∷ xs) ys = ap (λ t. 32 ∷ x ++ t) (spaced_appended xs ys) ∙ ap (λ t. 32 ∷ t) (sym (append_assoc x (spaced xs) (spaced ys)))
+
+-- the lines of a disjunction before others, and of a disjunct
+disjunction_before : (m : ModelTree) (d : Disjunction) (rest : List (List ℕ))
+    → disjunction_line (disjunction_of d).0.mode ∷ disjuncts_lines m (disjunction_of d).1 ++ codes "end" ∷ rest ≡ lines_of_disjunction m (disjunction_of d) ++ rest
+disjunction_before m d rest = ap (λ t. disjunction_line (disjunction_of d).0.mode ∷ t) (sym (append_assoc (disjuncts_lines m (disjunction_of d).1) (codes "end" ∷ []) rest))
+
+disjunct_before : (m : ModelTree) (j : Disjunct) (rest : List (List ℕ))
+    → disjunct_line m (disjunct_of j).0.indicator ∷ block_lines m (disjunct_of j).1 ++ codes "end" ∷ rest ≡ lines_of_disjunct m (disjunct_of j) ++ rest
+disjunct_before m j rest = ap (λ t. disjunct_line m (disjunct_of j).0.indicator ∷ t) (sym (append_assoc (block_lines m (disjunct_of j).1) (codes "end" ∷ []) rest))
+
+-- one more disjunction, and one more disjunct
+pub disjunctions_text_at : (m : ModelTree) (ds : List Disjunction) (i : ℕ) (d : Disjunction) → i < length ds → d ≡ get_or ds i d
+    → text_of (disjunctions_lines m (disjunctions_of (drop i ds))) ≡ text_of (lines_of_disjunction m (disjunction_of d)) ++ text_of (disjunctions_lines m (disjunctions_of (drop (i + 1) ds)))
+disjunctions_text_at m ds i d h e =
+    rw (add-one, drop-cons ds i d, ← e) (ap text_of (disjunction_before m d (disjunctions_lines m (disjunctions_of (drop (suc i) ds)))) ∙ text_appended (lines_of_disjunction m (disjunction_of d)) (disjunctions_lines m (disjunctions_of (drop (suc i) ds))))
+
+pub disjuncts_text_at : (m : ModelTree) (js : List Disjunct) (i : ℕ) (j : Disjunct) → i < length js → j ≡ get_or js i j
+    → text_of (disjuncts_lines m (disjuncts_of (drop i js))) ≡ text_of (lines_of_disjunct m (disjunct_of j)) ++ text_of (disjuncts_lines m (disjuncts_of (drop (i + 1) js)))
+disjuncts_text_at m js i j h e =
+    rw (add-one, drop-cons js i j, ← e) (ap text_of (disjunct_before m j (disjuncts_lines m (disjuncts_of (drop (suc i) js)))) ∙ text_appended (lines_of_disjunct m (disjunct_of j)) (disjuncts_lines m (disjuncts_of (drop (suc i) js))))
+
+-- the same of indicators
+numbers_appended : (xs ys : List DisjunctHead) → numbers_of (xs ++ ys) ≡ numbers_of xs ++ numbers_of ys
+numbers_appended xs ys = map-append (λ (head : DisjunctHead). head.indicator) xs ys
+
+pub below_disjunctions_at : (ds : List Disjunction) (i : ℕ) (d : Disjunction) → i < length ds → d ≡ get_or ds i d
+    → numbers_of (below_disjunctions (disjunctions_of (drop i ds))) ≡ numbers_of (below_disjuncts (disjunction_of d).1) ++ numbers_of (below_disjunctions (disjunctions_of (drop (i + 1) ds)))
+below_disjunctions_at ds i d h e =
+    rw (add-one, drop-cons ds i d, ← e) (numbers_appended (below_disjuncts (disjunction_of d).1) (below_disjunctions (disjunctions_of (drop (suc i) ds))))
+
+pub below_disjuncts_at : (js : List Disjunct) (i : ℕ) (j : Disjunct) → i < length js → j ≡ get_or js i j
+    → numbers_of (below_disjuncts (disjuncts_of (drop i js))) ≡ numbers_of ((disjunct_of j).0 ∷ below (disjunct_of j).1) ++ numbers_of (below_disjuncts (disjuncts_of (drop (i + 1) js)))
+below_disjuncts_at js i j h e =
+    rw (add-one, drop-cons js i j, ← e) (ap (λ t. (disjunct_of j).0.indicator ∷ t) (numbers_appended (below (disjunct_of j).1) (below_disjuncts (disjuncts_of (drop (suc i) js)))))

@@ -1,0 +1,98 @@
+//! The lines of a block and of what is below it.
+
+ghost use Rattle.std.specs.Prelude.{◌≡◌, ◌∷◌, [], ◌++◌, OnOk, codes, map};
+ghost use Rattle.block_tree.specs.Values.{model_tree};
+ghost use Rattle.block_tree.specs.View.{block_of, disjunct_of, disjunction_of, disjuncts_of, disjunctions_of};
+ghost use Rattle.gdp_grammar.specs.Canonical.{
+  text_of,
+  row_line,
+  block_lines,
+  disjunctions_lines,
+  disjuncts_lines,
+  lines_of_disjunction,
+  lines_of_disjunct,
+};
+
+use crate::lines::{put_disjunct_line, put_disjunction_line, put_end_line, put_row};
+use block_tree::{Block, Disjunct, Disjunction, Model};
+use fractions::Memory;
+use gdp_io::Text;
+use lp_rows::Row;
+use std::alloc::Global;
+
+// The rows of a block.
+fn put_rows(alloc: Global, text: &mut Text, model: &Model, rows: &[(Row, u32)]) -> Result<(), Memory>
+    ensures { OnOk result (text.new ≡ text.old ++ text_of (map (row_line (model_tree model.now)) rows.now)) }
+{
+    for row in rows {
+        put_row(alloc, text, model, row)?;
+    }
+    Ok(())
+}
+
+/// A block: its rows, and then its disjunctions.
+#[cycle(put)]
+#[tactic(auto, using(gdp_grammar::proofs::Printed::text_appended))]
+pub fn put_block(alloc: Global, text: &mut Text, model: &Model, block: &Block) -> Result<(), Memory>
+    ensures { OnOk result (text.new ≡ text.old ++ text_of (block_lines (model_tree model.now) (block_of block.now))) }
+{
+    put_rows(alloc, text, model, block.rows())?;
+    put_disjunctions(alloc, text, model, block.disjunctions())
+}
+
+#[cycle(put)]
+fn put_disjunctions(
+    alloc: Global,
+    text: &mut Text,
+    model: &Model,
+    disjunctions: &[Disjunction],
+) -> Result<(), Memory>
+    ensures { OnOk result (text.new
+        ≡ text.old ++ text_of (disjunctions_lines (model_tree model.now) (disjunctions_of disjunctions.now))) }
+{
+    for disjunction in disjunctions {
+        put_disjunction(alloc, text, model, disjunction)?;
+    }
+    Ok(())
+}
+
+#[cycle(put)]
+fn put_disjunction(
+    alloc: Global,
+    text: &mut Text,
+    model: &Model,
+    disjunction: &Disjunction,
+) -> Result<(), Memory>
+    ensures { OnOk result (text.new
+        ≡ text.old ++ text_of (lines_of_disjunction (model_tree model.now) (disjunction_of disjunction.now))) }
+{
+    put_disjunction_line(alloc, text, disjunction.mode())?;
+    put_disjuncts(alloc, text, model, disjunction.disjuncts())?;
+    put_end_line(alloc, text)
+}
+
+#[cycle(put)]
+fn put_disjuncts(
+    alloc: Global,
+    text: &mut Text,
+    model: &Model,
+    disjuncts: &[Disjunct],
+) -> Result<(), Memory>
+    ensures { OnOk result (text.new
+        ≡ text.old ++ text_of (disjuncts_lines (model_tree model.now) (disjuncts_of disjuncts.now))) }
+{
+    for disjunct in disjuncts {
+        put_disjunct(alloc, text, model, disjunct)?;
+    }
+    Ok(())
+}
+
+#[cycle(put)]
+fn put_disjunct(alloc: Global, text: &mut Text, model: &Model, disjunct: &Disjunct) -> Result<(), Memory>
+    ensures { OnOk result (text.new
+        ≡ text.old ++ text_of (lines_of_disjunct (model_tree model.now) (disjunct_of disjunct.now))) }
+{
+    put_disjunct_line(alloc, text, model, disjunct.indicator())?;
+    put_block(alloc, text, model, disjunct.block())?;
+    put_end_line(alloc, text)
+}
