@@ -176,7 +176,7 @@ free_booleans m = free_from 0 (indicators m.root) m.booleans
 -- The lines of a model: the header, its variables, its Booleans that are no indicators, its goal and its root block.
 abbrev pub canonical_lines : ModelTree → List (List ℕ)
 canonical_lines m =
-    codes "gdp 1" ∷ map var_line m.vars ++ map boolean_line (free_booleans m) ++ goal_line m ∷ block_lines m m.root
+    codes "gdp 1" ∷ map var_line m.vars ++ (map boolean_line (free_booleans m) ++ goal_line m ∷ block_lines m m.root)
 
 -- the canonical text of a model
 unfoldable pub canonical_text : ModelTree → List ℕ

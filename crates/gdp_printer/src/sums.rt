@@ -1,6 +1,6 @@
 //! Sums of a row or a goal.
 
-ghost use Rattle.std.specs.Prelude.{◌≡◌, ◌∷◌, ◌++◌, OnOk, pos, ◌<ℤ◌};
+ghost use Rattle.std.specs.Prelude.{◌≡◌, [], ◌∷◌, ◌++◌, OnOk, pos, ◌<ℤ◌};
 ghost use Rattle.block_tree.specs.Values.{model_tree};
 ghost use Rattle.gdp_grammar.specs.Canonical.{
   spaced,
@@ -113,13 +113,22 @@ fn put_constant(alloc: Global, text: &mut Text, constant: i128, scale: i128) -> 
     put_signed(alloc, text, &constant)
 }
 
+// What a goal's numbers are divided by.
+fn goal_scale(model: &Model) -> i128
+    ensures scale { result ≡ model.now.goal.scale }
+    ensures positive { pos 0 <ℤ result }
+{
+    let _ = model.vars();
+    model.scale()
+}
+
 /// The terms of a goal and its constant over its scale, or the constant alone.
 pub fn put_goal_sum(alloc: Global, text: &mut Text, model: &Model) -> Result<(), Memory>
     ensures { OnOk result (text.new
         ≡ text.old ++ spaced (goal_words (var_names (model_tree model.now))
             (terms_over model.now.goal.scale model.now.goal.terms) (over model.now.goal.scale model.now.goal.constant))) }
 {
-    let scale = model.scale();
+    let scale = goal_scale(model);
     if model.terms().is_empty() {
         return put_number(alloc, text, &quotient(model.constant(), scale));
     }
