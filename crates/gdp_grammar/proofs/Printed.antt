@@ -3,9 +3,8 @@ use Rattle.std.proofs.Common.{◌≡◌, ℕ, ◌+◌, List, [], ◌∷◌, ◌+
 use Rattle.fractions.specs.Fraction.{Fraction}
 use Rattle.block_tree.specs.declared.tree.Disjunct.{Disjunct}
 use Rattle.block_tree.specs.declared.tree.Disjunction.{Disjunction}
-use Rattle.block_tree.specs.Tree.{DisjunctHead, BlockTree, block}
+use Rattle.block_tree.specs.Tree.{DisjunctHead, BlockTree, block, below, below_disjunctions, below_disjuncts}
 use Rattle.std.proofs.lemmas.List.{map-append}
-use Rattle.block_tree.specs.Tests.{below, below_disjunctions, below_disjuncts}
 use Rattle.block_tree.specs.Values.{ModelTree}
 use Rattle.block_tree.specs.View.{disjuncts_of, disjunctions_of, disjunct_of, disjunction_of, rows_in, disjunctions_in}
 use Rattle.gdp_grammar.specs.Canonical.{spaced, text_of, sum_words, disjunctions_lines, disjuncts_lines, lines_of_disjunction, lines_of_disjunct, disjunction_line, disjunct_line, block_lines, numbers_of, row_line, var_line, boolean_line, free_booleans, goal_line, canonical_lines}

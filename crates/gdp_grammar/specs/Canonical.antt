@@ -12,8 +12,7 @@ use Rattle.lp_rows.specs.declared.kinds.Sense.TheVariants.{Min, Max}
 use Rattle.lp_rows.specs.Rows.{RowValue}
 use Rattle.block_tree.specs.declared.tree.Mode.{Mode}
 use Rattle.block_tree.specs.declared.tree.Mode.TheVariants.{Xor, Or}
-use Rattle.block_tree.specs.Tests.{below}
-use Rattle.block_tree.specs.Tree.{DisjunctHead, BlockTree, block, Disjunctions, no_disjunctions, disjunction, Disjuncts, no_disjuncts, disjunct}
+use Rattle.block_tree.specs.Tree.{DisjunctHead, BlockTree, block, Disjunctions, no_disjunctions, disjunction, Disjuncts, no_disjuncts, disjunct, below}
 use Rattle.block_tree.specs.Values.{GoalValue, ModelTree}
 use Rattle.block_tree.specs.Variables.{VarValue, BooleanValue}
 use Rattle.block_tree.specs.View.{DisjunctTree, DisjunctionTree}

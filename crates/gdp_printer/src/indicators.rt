@@ -2,7 +2,7 @@
 
 ghost use Rattle.std.specs.Prelude.{◌≡◌, ◌∷◌, ◌++◌, ◌==◌, OnOk, IfOk, map};
 ghost use Rattle.std.specs.List.{list_any};
-ghost use Rattle.block_tree.specs.Tests.{below, below_disjunctions, below_disjuncts};
+ghost use Rattle.block_tree.specs.Tree.{below, below_disjunctions, below_disjuncts};
 ghost use Rattle.block_tree.specs.View.{block_of, disjunct_of, disjunctions_of, disjuncts_of};
 ghost use Rattle.gdp_grammar.specs.Canonical.{indicators, numbers_of};
 
