@@ -1,3 +1,5 @@
+pub mod Lowest
+pub mod Printed
 pub mod Cutting
 pub mod Pieces
 pub mod Sums
@@ -9,5 +11,3 @@ pub mod Worked
 pub mod Threaded
 pub mod PointOnce
 pub mod Fed
-pub mod Lowest
-pub mod Printed
