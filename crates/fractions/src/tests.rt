@@ -1,6 +1,6 @@
 //! Values computed by another program's fractions and integers.
 
-use crate::divisors::{divisor_of_both, exact_quotient, gcd, lcm};
+use crate::divisors::{divisor_of_both, exact_quotient, gcd, gcd_of_magnitudes, lcm};
 use crate::frac::Frac;
 use crate::memory::Memory;
 use crate::quotients::compare_quotients;
@@ -50,7 +50,10 @@ fn divides(rt: HostRuntime) {
     }
     assert_eq!(rt; divisor_of_both(-12, 18), -6);
     assert_eq!(rt; divisor_of_both(i128::MIN, 0), i128::MIN);
+    assert_eq!(rt; divisor_of_both(6, i128::MIN), 2);
     assert_eq!(rt; exact_quotient(-12, 3), -4);
+    assert_eq!(rt; exact_quotient(i128::MIN, 1), i128::MIN);
+    assert_eq!(rt; gcd_of_magnitudes(u128::MAX, 6), 3);
 }
 
 #[test]
@@ -291,8 +294,27 @@ fn calculates(rt: HostRuntime) -> Result<(), Fail> {
         assert_eq!(rt; a.mul(&b).ok().map(parts), product, "{left:?} * {right:?}");
         assert_eq!(rt; a == b, order == Ordering::Equal, "{left:?} == {right:?}");
     }
-    assert_eq!(rt; compare_quotients(7, 2, 10, 3), Ordering::Greater);
     Ok(())
+}
+
+#[test]
+fn compares(rt: HostRuntime) {
+    for (a, b, c, d, order) in [
+        (7, 2, 10, 3, Ordering::Greater),
+        (2, 4, 1, 2, Ordering::Equal),
+        (i128::MIN, 1, i128::MIN, 1, Ordering::Equal),
+        (i128::MIN, i128::MAX, -1, 1, Ordering::Less),
+        (-1, 1, i128::MIN, i128::MAX, Ordering::Greater),
+        (i128::MAX, 3, i128::MAX, 2, Ordering::Less),
+        (i128::MIN, 2, i128::MIN, 4, Ordering::Less),
+    ] {
+        assert!(rt; b > 0 && d > 0);
+        assert_eq!(rt;
+            compare_quotients(a, b, c, d),
+            order,
+            "{a} / {b} and {c} / {d}"
+        );
+    }
 }
 
 #[test]
@@ -353,6 +375,8 @@ fn sums(rt: HostRuntime) {
         (0, i128::MIN, -1, None),
         (-1, i128::MIN, -1, None),
         (0, i128::MIN, 1, Some(i128::MIN)),
+        (0, 1, i128::MIN, Some(i128::MIN)),
+        (0, i128::MIN, i128::MIN, None),
         (i128::MAX, i128::MIN, 1, Some(-1)),
         (
             5,

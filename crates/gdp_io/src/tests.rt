@@ -125,4 +125,6 @@ fn reads_and_writes_files(rt: HostRuntime) {
     expect_read(&rt, &mut shelf, ".", PLENTY, Err(ReadAllError::Read));
     let mut full = OutSink::new(fs::create(&rt, "/dev/full").expect(&rt, "a device"));
     assert!(rt; write_all(&mut full, b"to").is_err());
+    let mut errors = OutSink::new(rt.stderr());
+    assert!(rt; write_all(&mut errors, b"to a stream\n").is_ok());
 }

@@ -1,6 +1,10 @@
 //! Values from outside: what makes a row or a point, and rows at points up to the ends of 128 bits.
 
-use crate::{Flags, Nums, Point, PointError, Rel, Row, RowError, Terms, are_ids_below, row_holds};
+use crate::{
+    Col, ColList, Flags, Kind, Nums, Point, PointError, Rel, Row, RowError, Sign, Terms,
+    are_coefficients_storable, are_ids_below, do_ids_ascend, has_zero_coefficient, is_storable,
+    row_holds, sum_at,
+};
 use fractions::Wide;
 use std::alloc::Global;
 use std::test::Fail;
@@ -149,4 +153,73 @@ fn lists_keep_what_is_pushed(rt: HostRuntime) -> Result<(), Fail> {
     let back = Nums::from_vec(numbers.into_vec());
     assert_eq!(rt; back.len(), 9);
     Ok(())
+}
+
+#[test]
+fn lists_go_to_vectors_and_back(rt: HostRuntime) -> Result<(), Fail> {
+    let alloc = rt.alloc();
+    let any = Col {
+        kind: Kind::Real,
+        sign: Sign::Free,
+    };
+    let count = Col {
+        kind: Kind::Int,
+        sign: Sign::Nonneg,
+    };
+    let mut cols = ColList::new(alloc);
+    assert!(rt; cols.is_empty());
+    cols.push(alloc, any)?;
+    cols.push(alloc, count)?;
+    assert_eq!(rt; cols.len(), 2);
+    let back = ColList::from_vec(cols.into_vec());
+    assert_eq!(rt; back.as_slice(), [any, count].as_slice());
+    let flags = Flags::from_vec(Flags::new(alloc).into_vec());
+    assert_eq!(rt; flags.len(), 0);
+    let terms = Terms::from_slice(alloc, &[(7, MIN)])?;
+    assert_eq!(rt; terms.as_slice(), [(7, MIN)].as_slice());
+    assert!(rt; !terms.is_empty());
+    Ok(())
+}
+
+#[test]
+fn what_a_row_may_store(rt: HostRuntime) {
+    for (number, want) in [
+        (0, true),
+        (LIMIT, true),
+        (-LIMIT, true),
+        (LIMIT + 1, false),
+        (-LIMIT - 1, false),
+        (MIN, false),
+        (MAX, false),
+    ] {
+        assert_eq!(rt; is_storable(number), want, "{number}");
+        assert_eq!(rt;
+            are_coefficients_storable(&[(0, 1), (1, number)]),
+            want,
+            "{number}"
+        );
+    }
+    for (id, want) in [(0, false), (4, false), (5, true), (u32::MAX, true)] {
+        assert_eq!(rt; do_ids_ascend(&[(4, 1), (id, 1)]), want, "{id}");
+    }
+    assert!(rt; has_zero_coefficient(&[(0, 1), (1, 0)]));
+    assert!(rt; !has_zero_coefficient(&[(0, MIN)]));
+}
+
+#[test]
+fn sums_go_in_the_order_of_the_terms(rt: HostRuntime) {
+    let table: [(&[(u32, i128)], &[i128], Result<i128, Wide>); 7] = [
+        (&[], &[], Ok(0)),
+        (&[(0, 2), (2, -3)], &[5, 9, 4], Ok(-2)),
+        (&[(0, 1), (1, 1), (2, -1)], &[MAX, 1, 1], Err(Wide)),
+        (&[(0, 1), (2, -1), (1, 1)], &[MAX, 1, 1], Ok(MAX)),
+        (&[(0, MIN)], &[-1], Err(Wide)),
+        (&[(0, 1)], &[MIN], Ok(MIN)),
+        (&[(0, MIN), (0, MAX)], &[1], Ok(-1)),
+    ];
+    for (terms, nums, want) in table {
+        assert!(rt; are_ids_below(terms, nums.len()));
+        assert_eq!(rt; sum_at(terms, nums), want);
+    }
+    assert!(rt; !are_ids_below(&[(2, 1), (3, 1)], 3));
 }

@@ -4,3 +4,6 @@ use Rattle.fractions.proofs.tests.divides.Goals as goal
 
 pub exact_quotient-requires-clause-divides : goal.exact_quotient-requires-clause-divides
 exact_quotient-requires-clause-divides g c = dvd_of_mod-eq-zero 3 refl
+
+pub exact_quotient-requires-2-clause-divides : goal.exact_quotient-requires-2-clause-divides
+exact_quotient-requires-2-clause-divides g c = dvd_of_mod-eq-zero 1 refl
