@@ -20,7 +20,7 @@ use std::alloc::Global;
 pub fn format_command<S: Shelf>(alloc: Global, shelf: &mut S, model: &str) -> Result<Reply, Memory>
     ensures { IfOk result (λ reply. Answers (Format model.now) (S.contents shelf.old) (S.faults shelf.old) (S.faults shelf.new) reply.status reply.text) }
 {
-    match read_all(shelf, alloc, model, LIMIT) {
+    match read_all(alloc, shelf, model, LIMIT) {
         Ok(text) => format(alloc, model, &text),
         Err(error) => read_failed(alloc, error, model),
     }

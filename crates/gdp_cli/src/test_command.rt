@@ -26,11 +26,11 @@ pub fn test_command<S: Shelf>(
 ) -> Result<Reply, Memory>
     ensures { IfOk result (λ reply. Answers (Test model.now point.now) (S.contents shelf.old) (S.faults shelf.old) (S.faults shelf.new) reply.status reply.text) }
 {
-    let model_text = match read_all(shelf, alloc, model, LIMIT) {
+    let model_text = match read_all(alloc, shelf, model, LIMIT) {
         Ok(text) => text,
         Err(error) => return read_failed(alloc, error, model),
     };
-    let point_text = match read_all(shelf, alloc, point, LIMIT) {
+    let point_text = match read_all(alloc, shelf, point, LIMIT) {
         Ok(text) => text,
         Err(error) => return read_failed(alloc, error, point),
     };

@@ -57,8 +57,8 @@ pub enum ReadAllError {
 
 /// Reads the text behind a name whole, up to a limit of bytes. One byte past it is read, and refuses it.
 pub fn read_all<S: Shelf>(
-    shelf: &mut S,
     alloc: Global,
+    shelf: &mut S,
     name: &str,
     limit: u64,
 ) -> Result<Text, ReadAllError>

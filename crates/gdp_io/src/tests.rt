@@ -22,7 +22,7 @@ fn expect_read<S: Shelf>(
     limit: u64,
     want: Result<&[u8], ReadAllError>,
 ) {
-    match read_all(shelf, rt.alloc(), name, limit) {
+    match read_all(rt.alloc(), shelf, name, limit) {
         Ok(text) => assert_eq!(rt; Ok(text.as_slice()), want, "at {name}, {limit}"),
         Err(error) => assert_eq!(rt; Err(error), want, "at {name}, {limit}"),
     }
