@@ -9,13 +9,10 @@ use Rattle.block_tree.specs.declared.errors.SumWide.{SumWide}
 use Rattle.block_tree.specs.Satisfied.{point_of}
 use Rattle.block_tree.specs.Tests.{tests_of, verdict_of}
 use Rattle.block_tree.specs.Values.{ModelTree}
-use Rattle.gdp_grammar.specs.declared.cause.ReadCause.{ReadCause}
-use Rattle.gdp_grammar.specs.Points.{SpellsPoint, IsFirstBadOfPoint}
-use Rattle.gdp_grammar.specs.Spelling.{Spells, IsFirstBad}
+use Rattle.gdp_grammar.specs.PointSpelling.{SpellsPoint}
+use Rattle.gdp_grammar.specs.Spelling.{Spells}
 use Rattle.gdp_cli.specs.declared.messages.Reply.{Reply}
-use Rattle.gdp_cli.specs.declared.status.Status.TheVariants.{Text}
 use Rattle.gdp_cli.specs.Answers.{Answers}
-use Rattle.gdp_cli.specs.Messages.{refused_at}
 use Rattle.gdp_cli.specs.Statuses.{IsWorked}
 use Rattle.gdp_cli.specs.Test.{VerdictSays, TestedSays, TestSays}
 use Rattle.gdp_cli.specs.Texts.{IsLong, PointSays}
@@ -32,15 +29,6 @@ if_point m point point_text bytes at truths flags verdict (Ok reply) same same_f
     let told : verdict ≡ verdict_of (tests_of m (point_of at truths)) = is_verdict ∙ ap (λ (f : List Bool). verdict_of (tests_of m (point_of at f))) same_flags in
     inr ((at, truths), is, subst (λ (v : Result Verdict SumWide). VerdictSays v reply.status reply.text) told says)
 
--- the first bad line of the point text
-pub if_bad_point : (m : ModelTree) (point point_text bytes : List ℕ) (line : ℕ) (cause : ReadCause) (result : Result Reply Memory) →
-    bytes ≡ point_text → IsFirstBadOfPoint m bytes line cause →
-    IfOk result (λ reply. (reply.status ≡ Text) × (reply.text ≡ refused_at point line cause)) →
-    IfOk result (λ reply. PointSays m point point_text (TestedSays m) reply.status reply.text)
-if_bad_point m point point_text bytes line cause (Err memory) same is_bad says = tt
-if_bad_point m point point_text bytes line cause (Ok reply) same is_bad says =
-    inl (line, cause, subst (λ (text : List ℕ). IsFirstBadOfPoint m text line cause) same is_bad, says.0, says.1)
-
 -- what the point answers for the model that the text spells
 pub if_model : (model point model_text point_text bytes : List ℕ) (m : ModelTree) (result : Result Reply Memory) →
     ¬ IsLong model_text → ¬ IsLong point_text → bytes ≡ model_text → Spells bytes m →
@@ -50,16 +38,6 @@ if_model model point model_text point_text bytes m (Err memory) short_model shor
 if_model model point model_text point_text bytes m (Ok reply) short_model short_point same is_model says =
     let is : Spells model_text m = subst (λ (text : List ℕ). Spells text m) same is_model in
     inr (short_model, inr (short_point, inr (m, is, says)))
-
--- the first bad line of the model text
-pub if_bad_model : (model point model_text point_text bytes : List ℕ) (line : ℕ) (cause : ReadCause) (result : Result Reply Memory) →
-    ¬ IsLong model_text → ¬ IsLong point_text → bytes ≡ model_text → IsFirstBad bytes line cause →
-    IfOk result (λ reply. (reply.status ≡ Text) × (reply.text ≡ refused_at model line cause)) →
-    IfOk result (λ reply. TestSays model point model_text point_text reply.status reply.text)
-if_bad_model model point model_text point_text bytes line cause (Err memory) short_model short_point same is_bad says = tt
-if_bad_model model point model_text point_text bytes line cause (Ok reply) short_model short_point same is_bad says =
-    let bad : IsFirstBad model_text line cause = subst (λ (text : List ℕ). IsFirstBad text line cause) same is_bad in
-    inr (short_model, inr (short_point, inl (line, cause, bad, says.0, says.1)))
 
 -- the table of the texts that were read is that of the texts behind the names
 pub if_both_read : (contents between : Contents) (before now : List ℕ → ℕ) (model point model_text point_text : List ℕ) (result : Result Reply Memory) →
