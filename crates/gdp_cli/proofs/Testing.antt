@@ -9,7 +9,7 @@ use Rattle.block_tree.specs.declared.errors.SumWide.{SumWide}
 use Rattle.block_tree.specs.Satisfied.{point_of}
 use Rattle.block_tree.specs.Tests.{tests_of, verdict_of}
 use Rattle.block_tree.specs.Values.{ModelTree}
-use Rattle.gdp_grammar.specs.PointSpelling.{SpellsPoint}
+use Rattle.gdp_grammar.specs.Points.{SpellsPoint}
 use Rattle.gdp_grammar.specs.Spelling.{Spells}
 use Rattle.gdp_cli.specs.declared.messages.Reply.{Reply}
 use Rattle.gdp_cli.specs.Answers.{Answers}

@@ -3,7 +3,7 @@ use Rattle.std.specs.Prelude.{◌<◌, ℕ, Bool, List, length}
 use Rattle.lp_rows.specs.Points.{PointValue}
 use Rattle.block_tree.specs.Values.{ModelTree}
 use Rattle.gdp_grammar.specs.Spelling.{Spells, IsFirstBad}
-use Rattle.gdp_grammar.specs.PointSpelling.{SpellsPoint, IsFirstBadOfPoint}
+use Rattle.gdp_grammar.specs.Points.{SpellsPoint, IsFirstBadOfPoint}
 use Rattle.gdp_cli.specs.declared.status.Status.TheVariants.{Text}
 use Rattle.gdp_cli.specs.Messages.{refused_at}
 use Rattle.gdp_cli.specs.Table.{Rows, Read}
