@@ -1,10 +1,10 @@
 //! The host's files and streams: the trusted edge. What they hold is told by no contract.
-ghost use Rattle.std.specs.Prelude.{◌≡◌, ℕ, ◌<◌, ◌≤◌, List, length, take, None, IsSome, IfOk, OnErr};
+ghost use Rattle.std.specs.Prelude.{◌≡◌, ℕ, ◌<◌, ◌≤◌, List, length, take, None, IsSome, IfOk, OnOk, OnErr};
 ghost use Rattle.std.specs.Io.{ReadsAtMost};
 ghost use Rattle.std.specs.Io.KnownBytes.{ReadConsumes, WriteAppends};
-ghost use Rattle.gdp_io.specs.Causes.{Rose};
-ghost use Rattle.gdp_io.specs.Host.{left_of};
-ghost use Rattle.gdp_io.specs.Shelf.{SameOpen, Reads};
+ghost use Rattle.gdp_io.specs.Causes.{Rose, count_after};
+ghost use Rattle.gdp_io.specs.Host.{left_of, untold, nowhere};
+ghost use Rattle.gdp_io.specs.Shelf.{Begins, SameOpen, Reads};
 
 use crate::shelves::{Failed, Shelf};
 use crate::sinks::Sink;
@@ -35,15 +35,22 @@ impl<'a, R: Files> FileShelf<'a, R> {
 }
 
 impl<'a, R: Files> Shelf for FileShelf<'a, R> {
-    ghost contents = { λ s _. None };
+    ghost contents = { λ s. untold };
 
-    ghost is_at = { λ s _ _. ⊥ };
+    ghost is_at = { λ s. nowhere };
 
     ghost is_open = { λ s _. IsSome s.file };
 
     ghost faults = { λ s _. s.faults };
 
-    fn begin(&mut self, name: &str) -> Result<(), Failed> {
+    fn begin(&mut self, name: &str) -> Result<(), Failed>
+        ensures opens { OnOk result (IsSome self.new.file) }
+        ensures begins { OnOk result (Begins untold nowhere name.now) }
+        ensures closed { OnErr result ((other : List ℕ) → ¬ IsSome self.new.file) }
+        ensures count { self.new.faults ≡ count_after result self.old.faults }
+        ensures later { self.old.faults ≤ self.new.faults }
+        ensures cause { OnErr result (Rose self.old.faults self.new.faults) }
+    {
         match fs::open(self.rt, name) {
             Ok(file) => {
                 self.file = Some(file);
@@ -61,8 +68,9 @@ impl<'a, R: Files> Shelf for FileShelf<'a, R> {
         // The open file gave these bytes.
         ensures host { ReadConsumes (left_of R.File.remaining self.old.file) (left_of R.File.remaining self.new.file) result into.new }
         ensures bound { ReadsAtMost result into.new }
-        ensures reads { IfOk result (λ n. Reads (λ _. None) (λ _ _. ⊥) (λ _ _. ⊥) (take n into.new)) }
+        ensures reads { IfOk result (λ n. Reads untold nowhere nowhere (take n into.new)) }
         ensures is_open { SameOpen (λ _. IsSome self.old.file) (λ _. IsSome self.new.file) }
+        ensures count { self.new.faults ≡ count_after result self.old.faults }
         ensures later { self.old.faults ≤ self.new.faults }
         ensures cause { OnErr result ((name : List ℕ) → IsSome self.old.file → Rose self.old.faults self.new.faults) }
     {
@@ -101,6 +109,7 @@ impl<W: std::io::Write + Drop> Sink for OutSink<W> {
         // The stream took these bytes.
         ensures host { WriteAppends (W.contents self.old.to) (W.contents self.new.to) result piece.now }
         ensures bound { IfOk result (λ n. (0 < n) × (n ≤ length piece.now)) }
+        ensures count { self.new.faults ≡ count_after result self.old.faults }
         ensures later { self.old.faults ≤ self.new.faults }
         ensures cause { OnErr result (Rose self.old.faults self.new.faults) }
     {

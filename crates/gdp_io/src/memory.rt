@@ -2,7 +2,7 @@
 ghost use Rattle.std.specs.Prelude.{◌≡◌, ℕ, ◌+◌, ◌-◌, ◌<◌, ◌≤◌, ◌⊎◌, ◌↔◌, ◌++◌, List, [], take, length, min, Some, None, false, IfOk, IsErr, OnOk, OnErr, IsSome, vec_len, vec_capacity};
 ghost use Rattle.std.specs.Io.{ReadsAtMost};
 ghost use Rattle.gdp_io.specs.Calls.{FailsAfter, one_more};
-ghost use Rattle.gdp_io.specs.Causes.{Rose};
+ghost use Rattle.gdp_io.specs.Causes.{Rose, count_after};
 ghost use Rattle.gdp_io.specs.Folder.{contents_of, IsAt, Puts};
 ghost use Rattle.gdp_io.specs.Names.{NamesGrow, SameNames};
 ghost use Rattle.gdp_io.specs.Shelf.{SameContents, SameOpen, Reads};
@@ -44,7 +44,8 @@ impl MemShelf {
 
     /// Whether a file has this name.
     pub fn has(&self, name: &str) -> bool
-        ensures { result ≡ has_name self.now name.now }
+        ensures known { result ≡ has_name self.now name.now }
+        ensures told { IsSome (⟦<MemShelf as Shelf>⟧.contents self.now name.now) }
     {
         self.folder.has(name)
     }
@@ -84,6 +85,7 @@ impl Shelf for MemShelf {
         ensures begins { OnOk result (IsAt self.new.folder name.now 0) }
         ensures closed { OnErr result ((other : List ℕ) → ¬ IsSome self.new.folder.opened) }
         ensures contents { SameContents (contents_of self.old.folder) (contents_of self.new.folder) }
+        ensures count { self.new.faults ≡ count_after result self.old.faults }
         ensures later { self.old.faults ≤ self.new.faults }
         ensures cause { OnErr result (Rose self.old.faults self.new.faults) }
     {
@@ -105,6 +107,7 @@ impl Shelf for MemShelf {
         ensures reads { IfOk result (λ n. Reads (contents_of self.old.folder) (IsAt self.old.folder) (IsAt self.new.folder) (take n into.new)) }
         ensures is_open { SameOpen (λ _. IsSome self.old.folder.opened) (λ _. IsSome self.new.folder.opened) }
         ensures contents { SameContents (contents_of self.old.folder) (contents_of self.new.folder) }
+        ensures count { self.new.faults ≡ count_after result self.old.faults }
         ensures later { self.old.faults ≤ self.new.faults }
         ensures cause { OnErr result ((name : List ℕ) → IsSome self.old.folder.opened → Rose self.old.faults self.new.faults) }
     {
@@ -177,6 +180,7 @@ impl Sink for MemSink {
         ensures bound { IfOk result (λ n. (0 < n) × (n ≤ length piece.now)) }
         ensures bytes { IfOk result (λ n. self.new.bytes.items ≡ self.old.bytes.items ++ take n piece.now) }
         ensures none { OnErr result (self.new.bytes.items ≡ self.old.bytes.items) }
+        ensures count { self.new.faults ≡ count_after result self.old.faults }
         ensures later { self.old.faults ≤ self.new.faults }
         ensures cause { OnErr result (Rose self.old.faults self.new.faults) }
     {

@@ -1,5 +1,5 @@
 //! The forms that never fail: their count of faults is the constant 0.
-ghost use Rattle.std.specs.Prelude.{◌≡◌, ℕ, ◌<◌, ◌≤◌, ◌||◌, List, [], Some, None, Ok, length, false, IfOk, OnOk, OnErr, ⊤};
+ghost use Rattle.std.specs.Prelude.{◌≡◌, ℕ, ◌<◌, ◌≤◌, ◌||◌, List, [], Some, None, Ok, length, false, IfOk, IsSome, OnOk, OnErr, ⊤};
 ghost use Rattle.std.specs.Str.{bytes_eq};
 ghost use Rattle.gdp_io.specs.Folder.{contents_of, IsAt, Puts};
 ghost use Rattle.gdp_io.specs.Names.{NamesGrow, SameNames};
@@ -32,6 +32,7 @@ impl SureShelf {
     /// Whether a file has this name.
     pub fn has(&self, name: &str) -> bool
         ensures known { result ≡ has_name self.now name.now }
+        ensures told { IsSome (⟦<SureShelf as Shelf>⟧.contents self.now name.now) }
         ensures unknown { result ≡ false → ⟦<SureShelf as Shelf>⟧.contents self.now name.now ≡ Some [] }
     {
         self.folder.has(name)
