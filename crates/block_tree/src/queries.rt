@@ -22,6 +22,13 @@ impl ModelBuilder {
         self.parts.opened.is_some()
     }
 
+    /// Whether a goal was given.
+    pub fn has_goal(&self) -> bool
+        ensures { result ≡ is_some (stands_for self.now).goal }
+    {
+        self.parts.goal.is_some()
+    }
+
     /// Whether a variable or a Boolean has this name.
     pub fn is_taken(&self, name: &str) -> bool
         ensures { result ≡ is_taken_in name.now (stands_for self.now) }

@@ -1,16 +1,13 @@
 -- What a line adds to the model that is being built.
-use Rattle.std.proofs.Common.{◌≡◌, ◌⊎◌, inl, inr, ℕ, ℤ, pos, Bool, true, false, nat_eq, unsigned_abs, ◌&&◌, ◌<◌, ◌+◌, length, get_or, drop, map, List, [], ◌∷◌, ◌++◌, Option, Some, None, Result, Ok, Err, refl, ap, sym, ◌∙◌, subst}
+use Rattle.std.proofs.Common.{◌≡◌, ℕ, false, ◌<◌, ◌+◌, length, get_or, drop, map, List, [], ◌∷◌, ◌++◌, Option, Some, None, Result, Ok, Err, refl, ap, sym, ◌∙◌}
 use Rattle.std.proofs.lemmas.List.{append_assoc, drop_more, map-append}
 use Rattle.gdp_reader.specs.declared.form.Summand.{Summand as Term}
 use Rattle.gdp_reader.specs.Lines.{summand, named_summand}
-use Rattle.fractions.specs.Fraction.{Fraction}
 use Rattle.gdp_grammar.specs.declared.cause.ReadCause.{ReadCause}
 use Rattle.gdp_grammar.specs.declared.cause.ReadCause.TheVariants as cause
 use Rattle.gdp_grammar.specs.Causes.{◌>>=◌}
 use Rattle.gdp_grammar.specs.Forms.{Summand}
-use Rattle.std.specs.List.{list_all}
-use Rattle.gdp_grammar.specs.Numerals.{Numeral, Whole, Fraction as Over, Decimal as Places, decimal}
-use Rattle.gdp_grammar.specs.Reading.{or_cause, in_range, signed_whole, whole_value, value_of, coefficient, coefficient_of, id_of, known_terms, valued_terms}
+use Rattle.gdp_grammar.specs.Reading.{or_cause, id_of, known_terms}
 use Rattle.block_tree.specs.Variables.{VarValue}
 
 -- terms before those that are read

@@ -1,5 +1,5 @@
 -- What the reader of a model text answers at its end.
-use Rattle.std.proofs.Common.{◌≡◌, ℕ, List, Bool, true, false, not, Result, Ok, Err, refl, ap, sym, ◌∙◌}
+use Rattle.std.proofs.Common.{◌≡◌, ℕ, List, Bool, true, false, not, Result, Ok, Err, refl, ap, ◌∙◌}
 use Rattle.block_tree.specs.declared.errors.BuildError.{BuildError}
 use Rattle.block_tree.specs.declared.errors.BuildError.TheVariants as refusal
 use Rattle.block_tree.specs.Building.{finish_outcome}
@@ -11,10 +11,9 @@ use Rattle.gdp_grammar.specs.Spelling.{Spells}
 use Rattle.gdp_grammar.proofs.Followed.{spelled, given, first_bad}
 use Rattle.gdp_reader.specs.declared.error.ReadError.{ReadError}
 use Rattle.gdp_reader.specs.declared.error.ReadError.TheVariants as error
-use Rattle.gdp_reader.specs.declared.fault.LineError.{LineError}
-use Rattle.gdp_reader.specs.declared.fault.LineError.TheVariants.{Refused, Memory}
+use Rattle.gdp_reader.specs.declared.fault.LineError.TheVariants.{Refused}
 use Rattle.gdp_reader.specs.Building.{line_error}
-use Rattle.gdp_reader.specs.Taking.{GivesText, IsReadAs, IsRefused, Tells}
+use Rattle.gdp_reader.specs.Taking.{GivesText, IsReadAs, IsRefused}
 use Rattle.std.specs.Prelude.{IfOk, IfErr}
 
 -- the cause that is told of a refusal of the builder

@@ -3,9 +3,10 @@ pub mod Cuts
 pub mod Ends
 pub mod FirstLines
 pub mod Marks
+pub mod PointNumbers
+pub mod Ratios
 pub mod Reading
 pub mod SumSteps
 pub mod Values
-pub mod PointNumbers
 pub mod NameWords
 pub mod PointEnds

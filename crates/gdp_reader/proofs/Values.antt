@@ -1,19 +1,20 @@
 -- The values of numbers, digit by digit.
-use Rattle.std.proofs.Common.{◌≡◌, ℕ, ◌+◌, ◌-◌, ◌*◌, ◌^◌, ◌<◌, ◌≤◌, List, [], ◌∷◌, length, get_or, drop, Option, Some, None, cond, nat_le, Bool, true, false, ◌&&◌, ℤ, pos, ◌⊎◌, inl, inr, refl, ap, sym, ◌∙◌, arith}
-use Rattle.std.proofs.lemmas.List.{drop_more, drop_all}
+use Rattle.std.proofs.Common.{◌≡◌, ℕ, ◌+◌, ◌-◌, ◌*◌, ◌^◌, ◌<◌, ◌≤◌, List, [], ◌∷◌, length, get_or, drop, Some, None, nat_le, false, ◌&&◌, ℤ, pos, ◌⊎◌, inl, inr, refl, ap, sym, ◌∙◌, arith}
+use Rattle.std.proofs.lemmas.List.{drop_more}
 use Rattle.std.proofs.lemmas.Bool.{cond-true, cond-false}
 use Rattle.std.proofs.lemmas.Bool.Decides.{nat_tests}
 use Rattle.std.specs.Prelude.{unsigned_abs, FitsSigned}
 use Rattle.std.specs.Int.{IsGcd, w128}
 use Rattle.std.proofs.lemmas.Int.{ints}
 use Rattle.std.proofs.lemmas.Bool.{false≢true}
-use Rattle.std.proofs.Math.Nat.{one-dvd}
+use Rattle.std.proofs.Math.Nat.{one-dvd, pow-le-pow_right}
+use Rattle.gdp_grammar.proofs.Cutting.{told}
 use Rattle.fractions.specs.Fraction.{Fraction, IsReduced, fraction_fits}
 use Rattle.fractions.specs.Width.{fits}
 use Rattle.fractions.proofs.Reduction.{reduced_same}
 use Rattle.fractions.proofs.Widths.{fits_from_range}
 use Rattle.gdp_grammar.specs.Numerals.{decimal}
-use Rattle.gdp_grammar.specs.Reading.{in_range}
+use Rattle.gdp_reader.specs.Ranges.{in_range}
 
 -- digits make a number no less
 pub decimal_grows : (n : ℕ) (ds : List ℕ) → n ≤ decimal n ds
@@ -30,8 +31,8 @@ pub within_range : (size : ℕ) → size ≤ 10 ^ 15 → in_range size ≡ Some 
 within_range size within = cond-true (nat_le size (10 ^ 15)) (Some size) None (grind (arith, nat_tests))
 
 -- Past the range it stays, whatever digits follow.
-pub stays_past : (size : ℕ) (digits rest : List ℕ) → decimal size rest ≡ decimal 0 digits → 10 ^ 15 < size → in_range (decimal 0 digits) ≡ None
-stays_past size digits rest same past = past_range (decimal 0 digits) (omega (arith, same, past, decimal_grows size rest))
+pub stays_past : (size whole : ℕ) (rest : List ℕ) → decimal size rest ≡ whole → 10 ^ 15 < size → in_range whole ≡ None
+stays_past size whole rest same past = past_range whole (omega (arith, same, past, decimal_grows size rest))
 
 -- a whole number over 1 is in lowest terms, and is the only one that is equal to it
 gcd_of_one : (n : ℕ) → IsGcd n 1 1
@@ -55,3 +56,31 @@ never_refused n fit (inl e) = one_not_zero e
 never_refused n fit (inr f) =
     let same : fraction_fits (record { num = n; den = pos 1 }) ≡ false = sym (ap fraction_fits (whole_only n f.0 f.1)) ∙ f.2 in
     false≢true (sym same ∙ ap (λ b. b && fits (pos 1)) (fits_from_range n fit))
+
+-- a part that is not in range
+pub none_past : (size : ℕ) → None ≡ in_range size → 10 ^ 15 < size
+none_past size none = elim (told (nat_le size (10 ^ 15))) [
+  | inl t ↦ absurd (cc (none, cond-true (nat_le size (10 ^ 15)) (Some size) None t))
+  | inr f ↦ grind (arith, nat_tests)
+]
+
+some_within : (size part : ℕ) → Some part ≡ in_range size → (part ≡ size) × (size ≤ 10 ^ 15)
+some_within size part some = elim (told (nat_le size (10 ^ 15))) [
+  | inl t ↦
+      let both : Some part ≡ Some size = some ∙ cond-true (nat_le size (10 ^ 15)) (Some size) None t in
+      (cc both, grind (arith, nat_tests))
+  | inr f ↦ absurd (cc (some, cond-false (nat_le size (10 ^ 15)) (Some size) None f))
+]
+
+-- a number past the range stays past it with places behind it
+pub past_with : (size : ℕ) (places : List ℕ) → None ≡ in_range size → None ≡ in_range (decimal size places)
+past_with size places none = sym (stays_past size (decimal size places) places refl (none_past size none))
+
+-- powers of ten
+pub power_past : (k : ℕ) → 15 < k → None ≡ in_range (10 ^ k)
+power_past k many =
+    let big : 10 ^ 16 ≤ 10 ^ k = pow-le-pow_right (omega arith) {i = 16} {j = k} (omega (arith, many)) in
+    sym (past_range (10 ^ k) (omega (arith, big)))
+
+pub power_within : (k : ℕ) → k ≤ 15 → Some (10 ^ k) ≡ in_range (10 ^ k)
+power_within k few = sym (within_range (10 ^ k) (pow-le-pow_right (omega arith) {i = k} {j = 15} few))

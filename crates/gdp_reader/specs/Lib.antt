@@ -4,5 +4,6 @@ pub mod Gives
 pub mod Lines
 pub mod PointLines
 pub mod PointTaking
+pub mod Ranges
 pub mod Taking
 pub mod Tokens

@@ -1,11 +1,11 @@
 -- What the reader's lines say.
-use Rattle.std.specs.Prelude.{ℕ, List, map, Option}
+use Rattle.std.specs.Prelude.{ℕ, map}
 use Rattle.std.specs.Option.{option_map}
 use Rattle.gdp_grammar.specs.Forms as text
 use Rattle.gdp_reader.specs.declared.form.Signed.{Signed}
 use Rattle.gdp_reader.specs.declared.form.Summand.{Summand}
 use Rattle.gdp_reader.specs.declared.form.Form.{Form}
-use Rattle.gdp_reader.specs.declared.form.Form.TheVariants.{Var, Row}
+use Rattle.gdp_reader.specs.declared.form.Form.TheVariants.{Var, Boolean, Goal, Row, Disjunction, Disjunct, End}
 use Rattle.gdp_reader.specs.Tokens.{spelled}
 
 -- the number with its sign
@@ -23,4 +23,9 @@ named_summand t = (t.0, summand t.1)
 -- the line
 abbrev pub form : Form → text.Form
 form (Var name kind low high) = text.Var name.now kind (option_map signed low) (option_map signed high)
+form (Boolean name) = text.Boolean name.now
+form (Goal sense sum constant) = text.Goal sense (map summand sum.items) (option_map signed constant)
 form (Row sum rel right) = text.Row (map summand sum.items) rel (signed right)
+form (Disjunction mode) = text.Disjunction mode
+form (Disjunct name) = text.Disjunct name.now
+form End = text.End

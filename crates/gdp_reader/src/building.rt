@@ -2,6 +2,12 @@
 
 ghost use Rattle.std.specs.Prelude.{◌≡◌, ℕ, List, map, IfOk};
 ghost use Rattle.std.specs.Option.{option_map};
+ghost use Rattle.block_tree.specs.Nesting.{
+  boolean_outcome,
+  open_disjunction_outcome,
+  open_disjunct_outcome,
+  close_outcome,
+};
 ghost use Rattle.block_tree.specs.Standing.{stands_for};
 ghost use Rattle.gdp_grammar.specs.Reading.{
   named,
@@ -9,7 +15,10 @@ ghost use Rattle.gdp_grammar.specs.Reading.{
   known_terms,
   valued_terms,
   coefficient as coefficient_in,
+  after_call,
+  terms_of,
   with_var,
+  with_goal,
   with_row,
   with_form,
 };
@@ -21,11 +30,11 @@ ghost use Rattle.gdp_reader.specs.Tokens.{spelled};
 use crate::fault::LineError;
 use crate::form::{Form, Signed, Summand};
 use crate::token::Numeral;
-use crate::value::{end, signed_whole, value};
-use block_tree::{Bound, BuildError, ModelBuilder};
+use crate::value::{constant_value, end, signed_whole, value};
+use block_tree::{Bound, BuildError, Mode, ModelBuilder};
 use fractions::{Frac, Memory};
 use gdp_grammar::ReadCause;
-use lp_rows::{Kind, Rel};
+use lp_rows::{Kind, Rel, Sense};
 use std::alloc::Global;
 
 /// The cause of a refusal of the builder.
@@ -131,6 +140,22 @@ fn valued(alloc: Global, terms: &[(u32, Summand<'_>)]) -> Result<Vec<(u32, Frac)
     Ok(valued)
 }
 
+/// The terms of a sum: no variable stands twice in it, each name is known, and each number is in range.
+#[tactic(auto, unfolding(gdp_grammar::specs::Reading::terms_of))]
+fn read_terms(
+    alloc: Global,
+    builder: &ModelBuilder,
+    sum: &[Summand<'_>],
+) -> Result<Vec<(u32, Frac)>, LineError>
+    ensures { Gives (λ terms. terms.items) result (terms_of (stands_for builder.now).vars (map summand sum.now)) }
+{
+    if has_twice(alloc, builder, sum)? {
+        return Err(LineError::Refused(ReadCause::NameTwice));
+    }
+    let known = known(alloc, builder, sum)?;
+    valued(alloc, known.as_slice())
+}
+
 /// Adds a row.
 #[tactic(auto, unfolding(gdp_grammar::specs::Reading::with_row))]
 fn add_row(
@@ -146,15 +171,91 @@ fn add_row(
     if builder.is_in_disjunction() {
         return Err(LineError::Refused(ReadCause::Form));
     }
-    if has_twice(alloc, builder, sum)? {
-        return Err(LineError::Refused(ReadCause::NameTwice));
-    }
-    let terms = known(alloc, builder, sum)?;
-    let terms = valued(alloc, terms.as_slice())?;
+    let terms = read_terms(alloc, builder, sum)?;
     let Some(right) = value(right.is_negative, &right.size) else {
         return Err(LineError::Refused(ReadCause::Number));
     };
     match builder.row(alloc, terms.as_slice(), rel, right, line) {
+        Ok(()) => Ok(()),
+        Err(refusal) => Err(refused(refusal)),
+    }
+}
+
+/// Sets the goal.
+#[tactic(auto, unfolding(gdp_grammar::specs::Reading::with_goal))]
+fn add_goal(
+    alloc: Global,
+    builder: &mut ModelBuilder,
+    line: u32,
+    sense: Sense,
+    sum: &[Summand<'_>],
+    constant: &Option<Signed<'_>>,
+) -> Result<(), LineError>
+    ensures { Gives (λ _. stands_for builder.new) result (with_goal (stands_for builder.old) line sense (map summand sum.now) (option_map signed constant.now)) }
+{
+    if !builder.is_at_root() || builder.has_goal() {
+        return Err(LineError::Refused(ReadCause::Form));
+    }
+    let terms = read_terms(alloc, builder, sum)?;
+    let Some(constant) = constant_value(constant) else {
+        return Err(LineError::Refused(ReadCause::Number));
+    };
+    match builder.goal(alloc, sense, terms.as_slice(), constant, line) {
+        Ok(()) => Ok(()),
+        Err(refusal) => Err(refused(refusal)),
+    }
+}
+
+/// Adds a Boolean.
+fn add_boolean(
+    alloc: Global,
+    builder: &mut ModelBuilder,
+    line: u32,
+    name: &str,
+) -> Result<(), LineError>
+    ensures { Gives (λ _. stands_for builder.new) result (after_call (boolean_outcome name.now line (stands_for builder.old))) }
+{
+    match builder.boolean(alloc, name, line) {
+        Ok(_) => Ok(()),
+        Err(refusal) => Err(refused(refusal)),
+    }
+}
+
+/// Opens a disjunction.
+fn open_disjunction(
+    alloc: Global,
+    builder: &mut ModelBuilder,
+    line: u32,
+    mode: Mode,
+) -> Result<(), LineError>
+    ensures { Gives (λ _. stands_for builder.new) result (after_call (open_disjunction_outcome mode line (stands_for builder.old))) }
+{
+    match builder.open_disjunction(alloc, mode, line) {
+        Ok(()) => Ok(()),
+        Err(refusal) => Err(refused(refusal)),
+    }
+}
+
+/// Opens a disjunct.
+fn open_disjunct(
+    alloc: Global,
+    builder: &mut ModelBuilder,
+    line: u32,
+    name: &str,
+) -> Result<(), LineError>
+    ensures { Gives (λ _. stands_for builder.new) result (after_call (open_disjunct_outcome name.now line (stands_for builder.old))) }
+{
+    match builder.open_disjunct(alloc, name, line) {
+        Ok(_) => Ok(()),
+        Err(refusal) => Err(refused(refusal)),
+    }
+}
+
+/// Closes the innermost that is open.
+fn close(alloc: Global, builder: &mut ModelBuilder) -> Result<(), LineError>
+    ensures { Gives (λ _. stands_for builder.new) result (after_call (close_outcome (stands_for builder.old))) }
+{
+    match builder.close(alloc) {
         Ok(()) => Ok(()),
         Err(refusal) => Err(refused(refusal)),
     }
@@ -171,6 +272,11 @@ pub fn add(
 {
     match read {
         Form::Var(name, kind, low, high) => add_var(alloc, builder, line, name, *kind, low, high),
+        Form::Boolean(name) => add_boolean(alloc, builder, line, name),
+        Form::Goal(sense, sum, constant) => add_goal(alloc, builder, line, *sense, sum, constant),
         Form::Row(sum, rel, right) => add_row(alloc, builder, line, sum, *rel, right),
+        Form::Disjunction(mode) => open_disjunction(alloc, builder, line, *mode),
+        Form::Disjunct(name) => open_disjunct(alloc, builder, line, name),
+        Form::End => close(alloc, builder),
     }
 }

@@ -3,15 +3,50 @@
 ghost use Rattle.std.specs.Prelude.{◌≡◌, map, length, drop};
 ghost use Rattle.std.specs.Option.{option_map};
 ghost use Rattle.gdp_grammar.specs.Keywords.{is_reserved as is_reserved_word};
-ghost use Rattle.gdp_grammar.specs.Forms.{ended, name_of, kind_of, numeral_of, sign_of, signed_of, low_after, low_of, high_of, rel_of, summand_of, summands_within, joint_of, word_next, nought_next, is_nought as is_nought_of, summands_of, sum_of, var_of, row_of, form_of};
+ghost use Rattle.gdp_grammar.specs.Forms.{
+  ended,
+  name_of,
+  kind_of,
+  numeral_of,
+  sign_of,
+  signed_of,
+  low_after,
+  low_of,
+  high_of,
+  rel_of,
+  mode_of,
+  summand_of,
+  summands_within,
+  number_alone,
+  joint_of,
+  word_next,
+  nought_next,
+  is_nought as is_nought_of,
+  summands_of,
+  sum_of,
+  last_number as last_number_of,
+  constant_of,
+  var_of,
+  boolean_of,
+  number_goal_of,
+  terms_goal_of,
+  goal_of,
+  row_of,
+  disjunction_of,
+  disjunct_of,
+  end_of,
+  form_of,
+  is_logic as is_logic_line,
+};
 ghost use Rattle.gdp_reader.specs.Gives.{Gives};
 ghost use Rattle.gdp_reader.specs.Tokens.{spelled};
 ghost use Rattle.gdp_reader.specs.Lines.{signed, summand, form};
 
 use crate::fault::LineError;
 use crate::token::{Numeral, Token, Tokens};
+use block_tree::Mode;
 use gdp_grammar::{ReadCause, Symbol};
-use lp_rows::{Kind, Rel};
+use lp_rows::{Kind, Rel, Sense};
 use std::alloc::Global;
 
 /// A number with its sign.
@@ -33,7 +68,12 @@ pub struct Summand<'a> {
 #[derive(Drop)]
 pub enum Form<'a> {
     Var(&'a str, Kind, Option<Signed<'a>>, Option<Signed<'a>>),
+    Boolean(&'a str),
+    Goal(Sense, Vec<Summand<'a>>, Option<Signed<'a>>),
     Row(Vec<Summand<'a>>, Rel, Signed<'a>),
+    Disjunction(Mode),
+    Disjunct(&'a str),
+    End,
 }
 
 /// Whether the word is no name.
@@ -190,6 +230,22 @@ fn relation(tokens: &mut Tokens<'_>) -> Result<Rel, LineError>
     }
 }
 
+/// `xor` or `or`.
+fn mode_word(tokens: &mut Tokens<'_>) -> Result<Mode, LineError>
+    ensures { Gives (λ mode. (mode, tokens.new)) result (mode_of tokens.old) }
+{
+    let Some(Token::Word(word)) = tokens.next() else {
+        return Err(LineError::Refused(ReadCause::Form));
+    };
+    if word == "xor" {
+        return Ok(Mode::Xor);
+    }
+    if word == "or" {
+        return Ok(Mode::Or);
+    }
+    Err(LineError::Refused(ReadCause::Form))
+}
+
 /// A term, after its sign.
 #[tactic(auto, unfolding(gdp_grammar::specs::Forms::summand_of))]
 fn term<'a>(tokens: &mut Tokens<'a>, is_negative: bool) -> Result<Summand<'a>, LineError>
@@ -216,15 +272,29 @@ fn term<'a>(tokens: &mut Tokens<'a>, is_negative: bool) -> Result<Summand<'a>, L
     }
 }
 
-/// The sign between two terms, if one comes, which it leaves.
+/// Whether a number is all that is left.
+fn is_number_alone(tokens: &Tokens<'_>) -> bool
+    ensures { result ≡ number_alone tokens.now }
+{
+    match tokens.peek() {
+        Some(Token::Number(_)) => tokens.after_first().peek().is_none(),
+        _ => false,
+    }
+}
+
+/// The sign between two terms, if one comes, which it leaves: not that of a goal's constant.
 fn joint(tokens: &Tokens<'_>) -> Option<bool>
     ensures { result ≡ joint_of tokens.now }
 {
-    match tokens.peek() {
-        Some(Token::Mark(Symbol::Plus)) => Some(false),
-        Some(Token::Mark(Symbol::Minus)) => Some(true),
-        _ => None,
+    let is_negative = match tokens.peek() {
+        Some(Token::Mark(Symbol::Plus)) => false,
+        Some(Token::Mark(Symbol::Minus)) => true,
+        _ => return None,
+    };
+    if is_number_alone(&tokens.after_first()) {
+        return None;
     }
+    Some(is_negative)
 }
 
 /// Whether the number is spelled `0`.
@@ -264,7 +334,7 @@ fn terms<'a>(
 fn is_word_second(tokens: &Tokens<'_>) -> bool
     ensures { result ≡ word_next (drop 1 tokens.now) }
 {
-    matches!(tokens.peek_second(), Some(Token::Word(_)))
+    matches!(tokens.after_first().peek(), Some(Token::Word(_)))
 }
 
 /// A variable's line, after its first word.
@@ -323,6 +393,130 @@ fn row_line<'a>(alloc: Global, tokens: &mut Tokens<'a>) -> Result<Form<'a>, Line
     Ok(Form::Row(sum, rel, right))
 }
 
+/// A Boolean's line, after its first word.
+#[tactic(auto, unfolding(gdp_grammar::specs::Forms::boolean_of))]
+fn boolean_line<'a>(tokens: &mut Tokens<'a>) -> Result<Form<'a>, LineError>
+    ensures { Gives form result (boolean_of tokens.old) }
+{
+    let name = name_word(tokens)?;
+    end_of_line(tokens)?;
+    Ok(Form::Boolean(name))
+}
+
+/// A number that ends the line, after its sign.
+fn last_number<'a>(
+    tokens: &mut Tokens<'a>,
+    is_negative: bool,
+) -> Result<Option<Signed<'a>>, LineError>
+    ensures { Gives (λ constant. option_map signed constant) result (last_number_of is_negative tokens.old) }
+{
+    let size = number(tokens)?;
+    end_of_line(tokens)?;
+    Ok(Some(Signed { is_negative, size }))
+}
+
+/// A goal's constant: nothing, or a sign and a number.
+#[tactic(auto, unfolding(gdp_grammar::specs::Forms::constant_of))]
+fn goal_constant<'a>(tokens: &mut Tokens<'a>) -> Result<Option<Signed<'a>>, LineError>
+    ensures { Gives (λ constant. option_map signed constant) result (constant_of tokens.old) }
+{
+    match tokens.next() {
+        None => Ok(None),
+        Some(Token::Mark(Symbol::Plus)) => last_number(tokens, false),
+        Some(Token::Mark(Symbol::Minus)) => last_number(tokens, true),
+        _ => Err(LineError::Refused(ReadCause::Form)),
+    }
+}
+
+/// A goal that is a number alone.
+#[tactic(auto, unfolding(gdp_grammar::specs::Forms::number_goal_of))]
+fn number_goal<'a>(
+    alloc: Global,
+    tokens: &mut Tokens<'a>,
+    sense: Sense,
+) -> Result<Form<'a>, LineError>
+    ensures { Gives form result (number_goal_of sense tokens.old) }
+{
+    let constant = signed_number(tokens)?;
+    Ok(Form::Goal(sense, Vec::new(alloc), Some(constant)))
+}
+
+/// A goal of terms, with a constant or without.
+#[tactic(auto, unfolding(gdp_grammar::specs::Forms::terms_goal_of))]
+fn terms_goal<'a>(
+    alloc: Global,
+    tokens: &mut Tokens<'a>,
+    sense: Sense,
+) -> Result<Form<'a>, LineError>
+    ensures { Gives form result (terms_goal_of sense tokens.old) }
+{
+    let sum = signed_terms(alloc, tokens)?;
+    let constant = goal_constant(tokens)?;
+    Ok(Form::Goal(sense, sum, constant))
+}
+
+/// Whether a number with an optional sign is all that is left.
+fn is_signed_alone(tokens: &Tokens<'_>) -> bool
+    ensures { result ≡ number_alone (sign_of tokens.now).1 }
+{
+    let mut others = tokens.ahead();
+    let _ = sign(&mut others);
+    is_number_alone(&others)
+}
+
+/// A goal's line, after its first word.
+fn goal_line<'a>(
+    alloc: Global,
+    tokens: &mut Tokens<'a>,
+    sense: Sense,
+) -> Result<Form<'a>, LineError>
+    ensures { Gives form result (goal_of sense tokens.old) }
+{
+    if is_signed_alone(tokens) {
+        return number_goal(alloc, tokens, sense);
+    }
+    terms_goal(alloc, tokens, sense)
+}
+
+/// The line that opens a disjunction, after its first word.
+#[tactic(auto, unfolding(gdp_grammar::specs::Forms::disjunction_of))]
+fn disjunction_line<'a>(tokens: &mut Tokens<'a>) -> Result<Form<'a>, LineError>
+    ensures { Gives form result (disjunction_of tokens.old) }
+{
+    let mode = mode_word(tokens)?;
+    end_of_line(tokens)?;
+    Ok(Form::Disjunction(mode))
+}
+
+/// The line that opens a disjunct, after its first word.
+#[tactic(auto, unfolding(gdp_grammar::specs::Forms::disjunct_of))]
+fn disjunct_line<'a>(tokens: &mut Tokens<'a>) -> Result<Form<'a>, LineError>
+    ensures { Gives form result (disjunct_of tokens.old) }
+{
+    let name = name_word(tokens)?;
+    end_of_line(tokens)?;
+    Ok(Form::Disjunct(name))
+}
+
+/// The line that closes a block or a disjunction, after its first word.
+#[tactic(auto, unfolding(gdp_grammar::specs::Forms::end_of))]
+fn end_line<'a>(tokens: &mut Tokens<'a>) -> Result<Form<'a>, LineError>
+    ensures { Gives form result (end_of tokens.old) }
+{
+    end_of_line(tokens)?;
+    Ok(Form::End)
+}
+
+/// Whether the first word is `logic`.
+pub fn is_logic(tokens: &Tokens<'_>) -> bool
+    ensures { result ≡ is_logic_line tokens.now }
+{
+    match tokens.peek() {
+        Some(Token::Word(word)) => word == "logic",
+        _ => false,
+    }
+}
+
 /// The form of a line.
 pub fn read_form<'a>(alloc: Global, tokens: &mut Tokens<'a>) -> Result<Form<'a>, LineError>
     ensures { Gives form result (form_of tokens.old) }
@@ -333,8 +527,26 @@ pub fn read_form<'a>(alloc: Global, tokens: &mut Tokens<'a>) -> Result<Form<'a>,
     if word == "var" {
         return var_line(tokens);
     }
+    if word == "boolean" {
+        return boolean_line(tokens);
+    }
+    if word == "min" {
+        return goal_line(alloc, tokens, Sense::Min);
+    }
+    if word == "max" {
+        return goal_line(alloc, tokens, Sense::Max);
+    }
     if word == "row" {
         return row_line(alloc, tokens);
+    }
+    if word == "disjunction" {
+        return disjunction_line(tokens);
+    }
+    if word == "disjunct" {
+        return disjunct_line(tokens);
+    }
+    if word == "end" {
+        return end_line(tokens);
     }
     Err(LineError::Refused(ReadCause::Form))
 }

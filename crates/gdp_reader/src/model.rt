@@ -4,7 +4,7 @@ ghost use Rattle.std.specs.Prelude.{◌≡◌, ◌^◌, ◌-◌, ◌<◌, ◌≤
 ghost use Rattle.block_tree.specs.Values.{ModelTree, model_tree};
 ghost use Rattle.gdp_grammar.specs.Following.{at_line, follow, text_gives};
 ghost use Rattle.gdp_grammar.specs.Lines.{lines_of};
-ghost use Rattle.gdp_grammar.specs.Reading.{nothing_taken, with_header, with_tokens, with_line, model_after};
+ghost use Rattle.gdp_grammar.specs.Reading.{nothing_taken, with_header, with_tokens, with_content, with_line, model_after};
 ghost use Rattle.gdp_grammar.specs.Spelling.{Spells};
 ghost use Rattle.gdp_grammar.specs.Tokens.{tokens_of};
 ghost use Rattle.gdp_grammar.specs.Words.{words_of};
@@ -14,7 +14,7 @@ ghost use Rattle.gdp_reader.specs.Taking.{taken_of, GivesText, IsReadAs, IsRefus
 use crate::building::{add, refused};
 use crate::error::ReadError;
 use crate::fault::LineError;
-use crate::form::read_form;
+use crate::form::{is_logic, read_form};
 use crate::line::{first_line, without_comment};
 use crate::token::Tokens;
 use crate::word::{are_words, is_blank};
@@ -66,16 +66,26 @@ impl Taking {
         add(alloc, &mut self.builder, line, &form)
     }
 
+    /// Takes what stands in a line before its comment.
+    fn take_content(&mut self, alloc: Global, line: u32, content: &[u8]) -> Result<(), LineError>
+        ensures { Gives (λ _. taken_of self.new) result (with_content (taken_of self.old) line content.now) }
+    {
+        if self.is_headed {
+            return self.take_form(alloc, line, content);
+        }
+        self.take_header(content)
+    }
+
     /// Takes a line.
     #[tactic(auto, unfolding(gdp_grammar::specs::Reading::with_line))]
     fn take(&mut self, alloc: Global, line: u32, bytes: &[u8]) -> Result<(), LineError>
         ensures { Gives (λ _. taken_of self.new) result (with_line (taken_of self.old) line bytes.now) }
     {
         let content = without_comment(bytes);
-        if self.is_headed {
-            return self.take_form(alloc, line, content);
+        if is_logic(&Tokens::new(content)) {
+            return Err(LineError::Refused(ReadCause::NotBuilt));
         }
-        self.take_header(content)
+        self.take_content(alloc, line, content)
     }
 }
 

@@ -148,13 +148,20 @@ impl<'a> Tokens<'a> {
         }
     }
 
-    /// The token after the first of those that are left.
-    pub fn peek_second(&self) -> Option<Token<'a>>
-        ensures { MatchOption result (drop 1 self.now ≡ []) (λ t. drop 1 self.now ≡ piece t ∷ drop 2 self.now) }
+    /// The tokens that are left, to look ahead.
+    pub fn ahead(&self) -> Tokens<'a>
+        ensures { result ≡ self.now }
     {
-        let mut others = Tokens { bytes: self.bytes };
+        Tokens { bytes: self.bytes }
+    }
+
+    /// The tokens after the first of those that are left, to look ahead.
+    pub fn after_first(&self) -> Tokens<'a>
+        ensures { result ≡ drop 1 self.now }
+    {
+        let mut others = self.ahead();
         others.skip();
-        others.next()
+        others
     }
 
     /// Passes over the first of the tokens that are left.
