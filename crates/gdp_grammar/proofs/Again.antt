@@ -221,6 +221,11 @@ spaced_apart (w ∷ ws) = refl
 pub words_again : (w : List ℕ) (ps : List Piece) (words : List (List ℕ)) → Reads w ps → tokens_of (spaced (w ∷ words)) ≡ ps ++ tokens_of (spaced words)
 words_again w ps words reads = blank_before 32 (w ++ spaced words) refl ∙ reads (spaced words) (spaced_apart words)
 
+-- the last word of a line
+pub last_again : (w : List ℕ) (ps : List Piece) → Reads w ps → tokens_of (spaced (w ∷ [])) ≡ ps ++ []
+unfolding tokens_of
+last_again w ps reads = words_again w ps [] reads
+
 pub first_again : (w : List ℕ) (ps : List Piece) (words : List (List ℕ)) → Reads w ps → tokens_of (w ++ spaced words) ≡ ps ++ tokens_of (spaced words)
 first_again w ps words reads = reads (spaced words) (spaced_apart words)
 

@@ -1,3 +1,4 @@
+pub mod LinesAgain
 pub mod Again
 pub mod Cutting
 pub mod Euclid
