@@ -7,6 +7,7 @@ pub mod Followed
 pub mod Grown
 pub mod Lowest
 pub mod Once
+pub mod Owned
 pub mod Pieces
 pub mod PointOnce
 pub mod Printed

@@ -10,7 +10,9 @@ pub mod Laws
 pub mod LineGrammars
 pub mod Lines
 pub mod Lowest
+pub mod Nested
 pub mod Numerals
+pub mod Owners
 pub mod PointForms
 pub mod PointLaws
 pub mod PointReading

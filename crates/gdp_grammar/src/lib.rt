@@ -10,6 +10,7 @@ pub mod cause;
 pub mod class;
 pub mod feeding;
 pub mod laws;
+pub mod nesting_laws;
 pub mod point_laws;
 pub mod symbol;
 

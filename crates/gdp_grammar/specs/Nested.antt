@@ -1,0 +1,65 @@
+-- How the tree of a model is nested: as the lines of its text are.
+use Rattle.std.specs.Prelude.{◌≡◌, ℕ, zero, suc, ◌+◌, Bool, true, false, ◌&&◌, ◌==◌, List, [], ◌∷◌, ◌++◌, map, length, Option, None, Some, if◌then◌else◌}
+use Rattle.lp_rows.specs.Rows.{RowValue}
+use Rattle.block_tree.specs.Tree.{BlockTree, block, Disjunctions, no_disjunctions, disjunction, Disjuncts, no_disjuncts, disjunct}
+use Rattle.block_tree.specs.Values.{ModelTree}
+use Rattle.gdp_grammar.specs.Lines.{lines_of}
+use Rattle.gdp_grammar.specs.Owners.{LineKind, Kinds, kinds_of, is_row, is_disjunction, is_disjunct, owner, IsNested}
+use Rattle.gdp_grammar.specs.Spelling.{Spells}
+
+abbrev pub same_owner : Option ℕ → Option ℕ → Bool
+same_owner None None = true
+same_owner None (Some k) = false
+same_owner (Some j) None = false
+same_owner (Some j) (Some k) = j == k
+
+-- the line if it passes the test and has this owner
+abbrev pub owned_line : Kinds → (LineKind → Bool) → Option ℕ → ℕ → List ℕ
+owned_line kinds test o n = if test (kinds n) && same_owner o (owner kinds n) then n ∷ [] else []
+
+-- the lines before line n that pass the test and have this owner, in order
+unfoldable pub owned : Kinds → (LineKind → Bool) → Option ℕ → ℕ → List ℕ
+owned kinds test o zero = []
+owned kinds test o (suc n) = owned kinds test o n ++ owned_line kinds test o n
+
+-- before line n this owner has these rows, disjunctions and disjuncts
+pub record Owns (kinds : Kinds) (n : ℕ) (o : Option ℕ) (rows disjunctions disjuncts : List ℕ) : Type 0 where
+  pub rows_are : owned kinds is_row o n ≡ rows
+  pub disjunctions_are : owned kinds is_disjunction o n ≡ disjunctions
+  pub disjuncts_are : owned kinds is_disjunct o n ≡ disjuncts
+
+-- the marks of rows, of disjunctions and of disjuncts
+abbrev pub row_marks : List (RowValue × ℕ) → List ℕ
+row_marks rows = map (λ r. r.1) rows
+
+abbrev pub disjunction_marks : Disjunctions → List ℕ
+disjunction_marks no_disjunctions = []
+disjunction_marks (disjunction head js ds) = head.mark ∷ disjunction_marks ds
+
+abbrev pub disjunct_marks : Disjuncts → List ℕ
+disjunct_marks no_disjuncts = []
+disjunct_marks (disjunct head b js) = head.mark ∷ disjunct_marks js
+
+-- A block has the rows and disjunctions that its owner has, which has no disjuncts; a disjunction has the disjuncts
+-- that its line has, which has no rows and no disjunctions; and so below.
+abbrev mutual
+  pub IsBlockOf : Kinds → ℕ → Option ℕ → BlockTree → Type 0
+  IsBlockOf kinds n o (block items ds) = Owns kinds n o (row_marks items.rows) (disjunction_marks ds) [] × AreDisjunctionsOf kinds n ds
+
+  pub AreDisjunctionsOf : Kinds → ℕ → Disjunctions → Type 0
+  AreDisjunctionsOf kinds n no_disjunctions = Unit {0}
+  AreDisjunctionsOf kinds n (disjunction head js ds) = Owns kinds n (Some head.mark) [] [] (disjunct_marks js) × AreDisjunctsOf kinds n js × AreDisjunctionsOf kinds n ds
+
+  pub AreDisjunctsOf : Kinds → ℕ → Disjuncts → Type 0
+  AreDisjunctsOf kinds n no_disjuncts = Unit {0}
+  AreDisjunctsOf kinds n (disjunct head b js) = IsBlockOf kinds n (Some head.mark) b × AreDisjunctsOf kinds n js
+
+-- The lines of the text are nested, and the model's tree is nested as they are: each block, disjunction and disjunct
+-- has as its own, in order, what stands in the lines that its line owns. The root has the lines without an owner.
+pub record IsNestedAs (text : List ℕ) (m : ModelTree) : Type 0 where
+  pub nested : IsNested (kinds_of text) (length (lines_of text) + 1)
+  pub root : IsBlockOf (kinds_of text) (length (lines_of text) + 1) None m.root
+
+-- a model that a text spells is nested as its lines are
+abbrev pub NestedAsSpelled : Type 0
+NestedAsSpelled = (text : List ℕ) (m : ModelTree) → Spells text m → IsNestedAs text m

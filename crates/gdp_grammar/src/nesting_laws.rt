@@ -1,0 +1,13 @@
+//! The laws of nesting, each the contract of a function with an empty body.
+
+ghost use Rattle.gdp_grammar.specs.Owners.{OwnerFound, OneOwner};
+
+/// The owner of a line is the last line before it that opens what isn't closed before it.
+pub fn owner_found()
+    ensures { OwnerFound }
+{}
+
+/// A line has one owner.
+pub fn one_owner()
+    ensures { OneOwner }
+{}
