@@ -15,3 +15,4 @@ pub mod Sums
 pub mod Threaded
 pub mod Twice
 pub mod Worked
+pub mod Owning
