@@ -14,6 +14,8 @@ mod form;
 mod integer;
 mod line;
 mod model;
+#[cfg(test)]
+mod model_tests;
 mod point;
 mod point_form;
 mod point_taking;
