@@ -1,6 +1,6 @@
 //! Lists that contracts see as lists: terms, numbers and truth values.
 
-ghost use Rattle.std.specs.Prelude.{◌≡◌, ◌≤◌, ◌==◌, [], ◌∷◌, ◌++◌, length, IfOk, IsOk, OnOk, OnErr};
+ghost use Rattle.std.specs.Prelude.{◌≡◌, ◌<◌, ◌≤◌, ◌==◌, [], ◌∷◌, ◌++◌, length, IfOk, IsOk, OnOk, OnErr};
 
 use fractions::Memory;
 use smallvec::SmallVec;
@@ -47,12 +47,14 @@ impl Terms {
         Ok(Terms { items })
     }
 
-    /// Adds a term at the end. A refused call changes nothing.
+    /// Adds a term at the end. Up to the eighth it wants no memory, and a refused call changes nothing.
     pub fn push(&mut self, _alloc: Global, term: (u32, i128)) -> Result<(), Memory>
         ensures ok { OnOk result (self.new ≡ self.old ++ term ∷ []) }
         ensures err { OnErr result (self.new ≡ self.old) }
+        ensures short { length self.old < 8 → IsOk result }
     {
-        if self.items.reserve(1).is_err() {
+        let is_full = self.items.len() == self.items.capacity();
+        if is_full && self.items.reserve(1).is_err() {
             return Err(Memory);
         }
         self.items.push_reserved(term);
