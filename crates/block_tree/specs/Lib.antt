@@ -4,6 +4,7 @@ pub mod Variables
 pub mod Names
 pub mod Numbers
 pub mod Nesting
+pub mod Occurs
 pub mod Satisfied
 pub mod Scaling
 pub mod Sound
@@ -12,3 +13,4 @@ pub mod Tests
 pub mod Tree
 pub mod Values
 pub mod View
+pub mod Worth

@@ -49,3 +49,7 @@ pub struct SumWide {
     /// The mark.
     pub mark: u32,
 }
+
+/// A number that the value of a goal forms is outside 128 bits.
+#[derive(Clone, Copy, Debug, PartialEq, Eq)]
+pub struct ValueWide;

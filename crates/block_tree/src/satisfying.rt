@@ -178,7 +178,7 @@ fn is_under(high: &Option<Frac>, number: i128, over: i128) -> Result<bool, Wide>
 }
 
 // The product, or None where it is wide.
-fn product(a: i128, b: i128) -> Option<i128>
+pub(crate) fn product(a: i128, b: i128) -> Option<i128>
     ensures { MatchOption result (fits (a *ℤ b) ≡ false) (λ z. (fits (a *ℤ b) ≡ true) × (z ≡ a *ℤ b)) }
 {
     a.checked_mul(b)
