@@ -160,9 +160,9 @@ whole_again (b ∷ bs) d after a =
     let s : Stops class.Digit after = apart_stops class.Digit after refl a in
     digit_token b (bs ++ after) h.0
     ∙ ap (λ (x : Numeral × List ℕ). Number x.0 ∷ tokens_of x.1)
-      (ap (λ w. numeral_of w (rest class.Digit (b ∷ bs ++ after))) (front_again class.Digit (b ∷ bs) after d.all s)
-      ∙ ap (λ l. numeral_of (b ∷ bs) l) (rest_again class.Digit (b ∷ bs) after d.all s)
-      ∙ whole_numeral (b ∷ bs) after a)
+    (ap (λ w. numeral_of w (rest class.Digit (b ∷ bs ++ after))) (front_again class.Digit (b ∷ bs) after d.all s)
+    ∙ ap (λ l. numeral_of (b ∷ bs) l) (rest_again class.Digit (b ∷ bs) after d.all s)
+    ∙ whole_numeral (b ∷ bs) after a)
 
 fraction_numeral : (digits ds after : List ℕ) → AreDigits ds → IsApart after → numeral_of digits (47 ∷ ds ++ after) ≡ (Fraction digits ds, after)
 unfolding numeral_of
@@ -183,9 +183,9 @@ fraction_again (b ∷ bs) us d u after a =
     ap tokens_of (append_assoc (b ∷ bs) (47 ∷ us) after)
     ∙ digit_token b (bs ++ tail) h.0
     ∙ ap (λ (x : Numeral × List ℕ). Number x.0 ∷ tokens_of x.1)
-      (ap (λ w. numeral_of w (rest class.Digit (b ∷ bs ++ tail))) (front_again class.Digit (b ∷ bs) tail d.all s)
-      ∙ ap (λ l. numeral_of (b ∷ bs) l) (rest_again class.Digit (b ∷ bs) tail d.all s)
-      ∙ fraction_numeral (b ∷ bs) us after u a)
+    (ap (λ w. numeral_of w (rest class.Digit (b ∷ bs ++ tail))) (front_again class.Digit (b ∷ bs) tail d.all s)
+    ∙ ap (λ l. numeral_of (b ∷ bs) l) (rest_again class.Digit (b ∷ bs) tail d.all s)
+    ∙ fraction_numeral (b ∷ bs) us after u a)
 
 -- symbols
 pub plus_again : Reads (codes "+") (Mark Plus ∷ [])

@@ -16,3 +16,5 @@ pub mod Threaded
 pub mod Twice
 pub mod Worked
 pub mod Owning
+pub mod Holding
+pub mod Nests

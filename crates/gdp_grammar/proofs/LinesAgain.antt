@@ -152,9 +152,9 @@ var_tokens v name low high =
     let second : List (List ℕ) = kind_word v.1 ∷ third in
     let h : tokens_of (spaced fourth) ≡ high_pieces v.2.high ++ [] = last_again (end_word (codes "inf") v.2.high) (high_pieces v.2.high) (high_reads v.2.high high) in
     let l : tokens_of (spaced third) ≡ low_pieces v.2.low ++ (high_pieces v.2.high ++ []) =
-        words_again (end_word (codes "-inf") v.2.low) (low_pieces v.2.low) fourth (low_reads v.2.low low) ∙ ap (λ t. low_pieces v.2.low ++ t) h in
+    words_again (end_word (codes "-inf") v.2.low) (low_pieces v.2.low) fourth (low_reads v.2.low low) ∙ ap (λ t. low_pieces v.2.low ++ t) h in
     let k : tokens_of (spaced second) ≡ Word (kind_word v.1) ∷ (low_pieces v.2.low ++ (high_pieces v.2.high ++ [])) =
-        words_again (kind_word v.1) (Word (kind_word v.1) ∷ []) third (kind_reads v.1) ∙ ap (λ t. Word (kind_word v.1) ∷ t) l in
+    words_again (kind_word v.1) (Word (kind_word v.1) ∷ []) third (kind_reads v.1) ∙ ap (λ t. Word (kind_word v.1) ∷ t) l in
     first_again (codes "var") (Word (codes "var") ∷ []) (v.0 ∷ second) (word_again 118 (codes "ar") refl refl)
     ∙ ap (λ t. Word (codes "var") ∷ t) (words_again v.0 (Word v.0 ∷ []) second (name_again v.0 name))
     ∙ ap (λ t. Word (codes "var") ∷ Word v.0 ∷ t) k
@@ -262,13 +262,16 @@ joint_with false n w ps = refl
 more_terms : (names : List (List ℕ)) (fuel : ℕ) (t : ℕ × fraction.Fraction) (ts : List (ℕ × fraction.Fraction)) (ps : List Piece) → length ts ≤ fuel
     → AreTermsAgain names (t ∷ ts) → joint_of ps ≡ None
     → summands_within (suc fuel) (int_lt t.1.num (pos 0)) (Number (numeral_for t.1) ∷ Word (name_in names t.0) ∷ (further_pieces names ts ++ ps))
-      ≡ Ok (summand_for names t ∷ summands_for names ts, ps)
+    ≡ Ok (summand_for names t ∷ summands_for names ts, ps)
 unfolding summand_of
 more_terms names fuel t [] ps le a none = rw (name_free (name_in names t.0) a.0.name, none) refl
 more_terms names zero t (u ∷ us) ps le a none = absurd (omega (arith, le))
 more_terms names (suc fuel) t (u ∷ us) ps le a none =
-    rw (name_free (name_in names t.0) a.0.name, joint_with (int_lt u.1.num (pos 0)) (numeral_for u.1) (name_in names u.0) (further_pieces names us ++ ps),
-        more_terms names fuel u us ps (omega (arith, le)) a.1 none) refl
+    rw (
+      name_free (name_in names t.0) a.0.name,
+      joint_with (int_lt u.1.num (pos 0)) (numeral_for u.1) (name_in names u.0) (further_pieces names us ++ ps),
+      more_terms names fuel u us ps (omega (arith, le)) a.1 none,
+    ) refl
 
 further_long : (names : List (List ℕ)) (ts : List (ℕ × fraction.Fraction)) (ps : List Piece) → length ts ≤ length (further_pieces names ts ++ ps)
 further_long names [] ps = omega arith
@@ -295,7 +298,7 @@ with_sign names t ts ps b = pieces_with b (numeral_for t.1) ++ Word (name_in nam
 terms_within : (names : List (List ℕ)) (t : ℕ × fraction.Fraction) (ts : List (ℕ × fraction.Fraction)) (ps : List Piece) (b : Bool) → int_lt t.1.num (pos 0) ≡ b
     → AreTermsAgain names (t ∷ ts) → joint_of ps ≡ None
     → summands_within (suc (suc (length (further_pieces names ts ++ ps)))) b (Number (numeral_for t.1) ∷ Word (name_in names t.0) ∷ (further_pieces names ts ++ ps))
-      ≡ Ok (summand_for names t ∷ summands_for names ts, ps)
+    ≡ Ok (summand_for names t ∷ summands_for names ts, ps)
 terms_within names t ts ps b e a none =
     ap (λ s. summands_within (suc (suc (length (further_pieces names ts ++ ps)))) s (Number (numeral_for t.1) ∷ Word (name_in names t.0) ∷ (further_pieces names ts ++ ps))) (sym e)
     ∙ more_terms names (suc (length (further_pieces names ts ++ ps))) t ts ps (omega (arith, further_long names ts ps)) a none
@@ -341,7 +344,7 @@ pub row_form_again : (names : List (List ℕ)) (ts : List (ℕ × fraction.Fract
 row_form_again names ts r right a short =
     let last : tokens_of (spaced (number_word right ∷ [])) ≡ number_pieces right ++ [] = last_again (number_word right) (number_pieces right) (number_again right short) in
     let both_last : tokens_of (spaced (rel_word r ∷ number_word right ∷ [])) ≡ rel_piece r ∷ (number_pieces right ++ []) =
-        words_again (rel_word r) (rel_piece r ∷ []) (number_word right ∷ []) (rel_reads r) ∙ ap (λ x. rel_piece r ∷ x) last in
+    words_again (rel_word r) (rel_piece r ∷ []) (number_word right ∷ []) (rel_reads r) ∙ ap (λ x. rel_piece r ∷ x) last in
     ap form_of
     (first_again (codes "row") (Word (codes "row") ∷ []) (sum_words names ts ++ rel_word r ∷ number_word right ∷ []) (word_again 114 (codes "ow") refl refl)
     ∙ ap (λ x. Word (codes "row") ∷ x) (sum_tokens names ts (rel_word r ∷ number_word right ∷ []) a)

@@ -1,5 +1,6 @@
 //! The laws of nesting, each the contract of a function with an empty body.
 
+ghost use Rattle.gdp_grammar.specs.Nested.{NestedAsSpelled};
 ghost use Rattle.gdp_grammar.specs.Owners.{OwnerFound, OneOwner};
 
 /// The owner of a line is the last line before it that opens what isn't closed before it.
@@ -10,4 +11,8 @@ pub fn owner_found()
 /// A line has one owner.
 pub fn one_owner()
     ensures { OneOwner }
+{}
+/// A model that a text spells is nested as the lines of the text are.
+pub fn nested_as_spelled()
+    ensures { NestedAsSpelled }
 {}
