@@ -1,4 +1,4 @@
--- What the lines of a text add to the model: blank lines, the header, and the variables and Booleans after it.
+-- What the lines of a text add to the model: blank lines, the header, and the variables, Booleans and goal after it.
 use Rattle.std.proofs.Common.{◌≡◌, ℕ, ◌+◌, Bool, true, false, not, ◌&&◌, ◌||◌, if◌then◌else◌, List, [], ◌∷◌, ◌++◌, length, Option, Some, None, is_some, Result, Ok, refl, ap, sym, ◌∙◌, subst, arith}
 use Rattle.std.specs.List.{list_all}
 use Rattle.std.proofs.lemmas.List.{append-nil, append_assoc}
@@ -11,14 +11,14 @@ use Rattle.lp_rows.specs.Rows.{RowValue}
 use Rattle.block_tree.specs.declared.bounds.Bound.{Bound}
 use Rattle.block_tree.specs.declared.errors.BuildError.{BuildError}
 use Rattle.block_tree.specs.declared.errors.BuildError.TheVariants as refusal
-use Rattle.block_tree.specs.Building.{BuildingValue, OpenBlock, OpenDisjunction, is_empty, is_at_root, is_taken, refusal_of_var, refusal_of_row, refusal_of_finish, stored_row, built_model}
+use Rattle.block_tree.specs.Building.{BuildingValue, OpenBlock, OpenDisjunction, is_empty, is_at_root, is_taken, refusal_of_var, refusal_of_row, refusal_of_finish, stored_row, goal_of, built_model}
 use Rattle.block_tree.specs.Nesting.{refusal_of_boolean, refusal_of_goal, stored_goal, refusal_of_disjunct, with_disjunct, open_disjunct_in, closed_disjunct, closed_disjunction, close_disjunct, close_opened}
-use Rattle.block_tree.specs.Values.{ModelTree}
+use Rattle.block_tree.specs.Values.{GoalValue, ModelTree}
 use Rattle.block_tree.specs.Variables.{VarValue, BooleanValue}
 use Rattle.gdp_grammar.specs.declared.cause.ReadCause.{ReadCause}
 use Rattle.gdp_grammar.specs.declared.cause.ReadCause.TheVariants as cause
 use Rattle.gdp_grammar.specs.Causes.{refuse_if}
-use Rattle.gdp_grammar.specs.Declaring.{is_blank, form_on, end_value, var_in, boolean_in, vars_from, booleans_from}
+use Rattle.gdp_grammar.specs.Declaring.{is_blank, form_on, end_value, var_in, boolean_in, goal_in, vars_from, booleans_from, goals_from, IsGoalOf}
 use Rattle.gdp_grammar.specs.Forms.{Form, Var, Boolean, Goal, Row, Disjunction, Disjunct, End, Signed, Summand, form_of, is_logic}
 use Rattle.gdp_grammar.specs.Laws.{LaidOut}
 use Rattle.gdp_grammar.specs.Lines.{lines_of, without_comment}
@@ -29,24 +29,36 @@ use Rattle.gdp_grammar.specs.Tokens.{Piece, tokens_of}
 use Rattle.gdp_grammar.specs.Words.{words_of, is_some_word}
 use Rattle.gdp_grammar.proofs.Sums.{bind_ok}
 
--- what a builder has after a call that adds these variables and Booleans
-record Grows (old new : BuildingValue) (vars : List VarValue) (booleans : List BooleanValue) : Type 0 where
+-- the marks of the goal that was given
+abbrev goal_marks : Option GoalValue → List ℕ
+goal_marks None = []
+goal_marks (Some goal) = goal.mark ∷ []
+
+-- what a builder has after a call that adds these variables, Booleans and goals
+record Grows (old new : BuildingValue) (vars : List VarValue) (booleans : List BooleanValue) (goals : List ℕ) : Type 0 where
   vars_after : new.vars ≡ old.vars ++ vars
   booleans_after : new.booleans ≡ old.booleans ++ booleans
+  goals_after : goal_marks new.goal ≡ goal_marks old.goal ++ goals
 
-grows_none : (old new : BuildingValue) → old ≡ new → Grows old new [] []
-grows_none old new same = subst (λ (b : BuildingValue). Grows old b [] []) same (record { vars_after = sym (append-nil old.vars); booleans_after = sym (append-nil old.booleans) })
+grows_none : (old new : BuildingValue) → old ≡ new → Grows old new [] [] []
+grows_none old new same = subst (λ (b : BuildingValue). Grows old b [] [] []) same
+    (record { vars_after = sym (append-nil old.vars); booleans_after = sym (append-nil old.booleans); goals_after = sym (append-nil (goal_marks old.goal)) })
 
--- a call that changes neither
-keeps_both : (old made new : BuildingValue) → made.vars ≡ old.vars → made.booleans ≡ old.booleans → made ≡ new → Grows old new [] []
-keeps_both old made new vars booleans same =
-    subst (λ (n : BuildingValue). Grows old n [] []) same
-    (record { vars_after = vars ∙ sym (append-nil old.vars); booleans_after = booleans ∙ sym (append-nil old.booleans) })
+-- a call that changes none of them
+keeps_all : (old made new : BuildingValue) → made.vars ≡ old.vars → made.booleans ≡ old.booleans → made.goal ≡ old.goal → made ≡ new → Grows old new [] [] []
+keeps_all old made new vars booleans goal same =
+    subst (λ (n : BuildingValue). Grows old n [] [] []) same
+    (record {
+      vars_after = vars ∙ sym (append-nil old.vars);
+      booleans_after = booleans ∙ sym (append-nil old.booleans);
+      goals_after = ap goal_marks goal ∙ sym (append-nil (goal_marks old.goal));
+    })
 
 -- a call that adds a Boolean
-adds_boolean : (old made new : BuildingValue) (x : BooleanValue) → made.vars ≡ old.vars → made.booleans ≡ old.booleans ++ x ∷ [] → made ≡ new → Grows old new [] (x ∷ [])
-adds_boolean old made new x vars booleans same =
-    subst (λ (n : BuildingValue). Grows old n [] (x ∷ [])) same (record { vars_after = vars ∙ sym (append-nil old.vars); booleans_after = booleans })
+adds_boolean : (old made new : BuildingValue) (x : BooleanValue) → made.vars ≡ old.vars → made.booleans ≡ old.booleans ++ x ∷ [] → made.goal ≡ old.goal → made ≡ new → Grows old new [] (x ∷ []) []
+adds_boolean old made new x vars booleans goal same =
+    subst (λ (n : BuildingValue). Grows old n [] (x ∷ []) []) same
+    (record { vars_after = vars ∙ sym (append-nil old.vars); booleans_after = booleans; goals_after = ap goal_marks goal ∙ sym (append-nil (goal_marks old.goal)) })
 
 -- a call that is not refused leaves what it makes
 called : {A B : Type 0} (refusal : Option BuildError) (old : B) (answer : A) (made new : B) → after_call (unless refusal old answer made) ≡ Ok new → made ≡ new
@@ -70,7 +82,7 @@ end_read (Some s) end e =
     sym (cc last) ∙ sym (valued cause.Number (value_of s.is_negative s.size) value.0 value.1)
 
 -- a variable's line adds it
-var_grows : (b new : BuildingValue) (line : ℕ) (name : List ℕ) (kind : Kind) (low high : Option Signed) → with_var b line name kind low high ≡ Ok new → Grows b new (var_in line (Ok (Var name kind low high))) []
+var_grows : (b new : BuildingValue) (line : ℕ) (name : List ℕ) (kind : Kind) (low high : Option Signed) → with_var b line name kind low high ≡ Ok new → Grows b new (var_in line (Ok (Var name kind low high))) [] []
 unfolding with_var
 var_grows b new line name kind low high e =
     let place = bind_ok (refuse_if (not (is_at_root b)) cause.Form) _ new e in
@@ -79,23 +91,37 @@ var_grows b new line name kind low high e =
     let upper = bind_ok (end_of high) _ new lower.2 in
     let bound : Bound = record { low = lower.0; high = upper.0 } in
     let made = called (refusal_of_var name bound b) b (length b.vars) (record b { vars = b.vars ++ (name, kind, bound, line) ∷ [] }) new upper.2 in
-    subst (λ (n : BuildingValue). Grows b n (var_in line (Ok (Var name kind low high))) []) made
+    subst (λ (n : BuildingValue). Grows b n (var_in line (Ok (Var name kind low high))) [] []) made
     (record {
       vars_after = ap (λ (x : Option Fraction). b.vars ++ (name, kind, record { low = x; high = upper.0 }, line) ∷ []) (end_read low lower.0 lower.1)
           ∙ ap (λ (x : Option Fraction). b.vars ++ (name, kind, record { low = end_value low; high = x }, line) ∷ []) (end_read high upper.0 upper.1);
       booleans_after = sym (append-nil b.booleans);
+      goals_after = sym (append-nil (goal_marks b.goal));
     })
 
-goal_grows : (b new : BuildingValue) (line : ℕ) (sense : Sense) (sum : List Summand) (constant : Option Signed) → with_goal b line sense sum constant ≡ Ok new → Grows b new [] []
+-- a goal that was not given has no mark
+no_goal_yet : (root given : Bool) (goal : Option GoalValue) (u : Unit {0}) → is_some goal ≡ given → refuse_if (root || given) cause.Form ≡ Ok u → goal_marks goal ≡ []
+no_goal_yet root given None u is e = refl
+no_goal_yet true given (Some goal) u is e = absurd (cc e)
+no_goal_yet false true (Some goal) u is e = absurd (cc e)
+no_goal_yet false false (Some goal) u is e = absurd (cc is)
+
+goal_grows : (b new : BuildingValue) (line : ℕ) (sense : Sense) (sum : List Summand) (constant : Option Signed) → with_goal b line sense sum constant ≡ Ok new → Grows b new [] [] (line ∷ [])
 unfolding with_goal
 goal_grows b new line sense sum constant e =
     let place = bind_ok (refuse_if (not (is_at_root b) || is_some b.goal) cause.Form) _ new e in
     let terms = bind_ok (terms_of b.vars sum) _ new place.2 in
     let number = bind_ok (or_cause cause.Number (constant_value constant)) _ new terms.2 in
     let made : BuildingValue = record b { goal = Some (stored_goal sense terms.0 number.0 line) } in
-    keeps_both b made new refl refl (called (refusal_of_goal terms.0 number.0 b) b tt made new number.2)
+    let none : goal_marks b.goal ≡ [] = no_goal_yet (not (is_at_root b)) (is_some b.goal) b.goal place.0 refl place.1 in
+    subst (λ (n : BuildingValue). Grows b n [] [] (line ∷ [])) (called (refusal_of_goal terms.0 number.0 b) b tt made new number.2)
+    (record {
+      vars_after = sym (append-nil b.vars);
+      booleans_after = sym (append-nil b.booleans);
+      goals_after = ap (λ (xs : List ℕ). xs ++ line ∷ []) (sym none);
+    })
 
-row_grows : (b new : BuildingValue) (line : ℕ) (sum : List Summand) (rel : Rel) (right : Signed) → with_row b line sum rel right ≡ Ok new → Grows b new [] []
+row_grows : (b new : BuildingValue) (line : ℕ) (sum : List Summand) (rel : Rel) (right : Signed) → with_row b line sum rel right ≡ Ok new → Grows b new [] [] []
 unfolding with_row
 row_grows b new line sum rel right e =
     let place = bind_ok (refuse_if (is_some b.opened) cause.Form) _ new e in
@@ -103,45 +129,45 @@ row_grows b new line sum rel right e =
     let number = bind_ok (or_cause cause.Number (value_of right.is_negative right.size)) _ new terms.2 in
     let row : RowValue × ℕ = (stored_row terms.0 rel number.0, line) in
     let made : BuildingValue = record b { inner = record b.inner { rows = b.inner.rows ++ row ∷ [] } } in
-    keeps_both b made new refl refl (called (refusal_of_row terms.0 number.0 b) b tt made new number.2)
+    keeps_all b made new refl refl refl (called (refusal_of_row terms.0 number.0 b) b tt made new number.2)
 
-disjunct_grows : (b new : BuildingValue) (line : ℕ) (name : List ℕ) (o : Option OpenDisjunction) → after_call (open_disjunct_in o name line b) ≡ Ok new → Grows b new [] ((name, line) ∷ [])
+disjunct_grows : (b new : BuildingValue) (line : ℕ) (name : List ℕ) (o : Option OpenDisjunction) → after_call (open_disjunct_in o name line b) ≡ Ok new → Grows b new [] ((name, line) ∷ []) []
 disjunct_grows b new line name None e = absurd (cc e)
 disjunct_grows b new line name (Some d) e =
     let made : BuildingValue = with_disjunct name line b d in
-    adds_boolean b made new (name, line) refl refl (called (refusal_of_disjunct name b) b (length b.booleans) made new e)
+    adds_boolean b made new (name, line) refl refl refl (called (refusal_of_disjunct name b) b (length b.booleans) made new e)
 
-end_grows : (b new : BuildingValue) (o : Option OpenDisjunction) → after_call (close_opened o b) ≡ Ok new → Grows b new [] []
+end_grows : (b new : BuildingValue) (o : Option OpenDisjunction) → after_call (close_opened o b) ≡ Ok new → Grows b new [] [] []
 end_grows b new (Some d) e =
     let made : BuildingValue = record b { inner = record b.inner { closed = b.inner.closed ++ closed_disjunction d ∷ [] }; opened = None } in
-    keeps_both b made new refl refl (called (build_refuse_if (is_empty d.closed) refusal.Missing None) b tt made new e)
+    keeps_all b made new refl refl refl (called (build_refuse_if (is_empty d.closed) refusal.Missing None) b tt made new e)
 end_grows b new None e = go b.outer e
   where
-    go : (os : List (OpenBlock × OpenDisjunction)) → after_call (close_disjunct b os) ≡ Ok new → Grows b new [] []
+    go : (os : List (OpenBlock × OpenDisjunction)) → after_call (close_disjunct b os) ≡ Ok new → Grows b new [] [] []
     go [] e = absurd (cc e)
     go (o ∷ os) e =
         let made : BuildingValue = record b { inner = o.0; opened = Some (record o.1 { closed = o.1.closed ++ closed_disjunct b.inner ∷ [] }); outer = os } in
-        keeps_both b made new refl refl (cc e)
+        keeps_all b made new refl refl refl (cc e)
 
-form_grows : (b new : BuildingValue) (line : ℕ) (form : Form) → with_form b line form ≡ Ok new → Grows b new (var_in line (Ok form)) (boolean_in line (Ok form))
+form_grows : (b new : BuildingValue) (line : ℕ) (form : Form) → with_form b line form ≡ Ok new → Grows b new (var_in line (Ok form)) (boolean_in line (Ok form)) (goal_in line (Ok form))
 form_grows b new line (Var name kind low high) e = var_grows b new line name kind low high e
 form_grows b new line (Boolean name) e =
     let made : BuildingValue = record b { booleans = b.booleans ++ (name, line) ∷ [] } in
-    adds_boolean b made new (name, line) refl refl (called (refusal_of_boolean name b) b (length b.booleans) made new e)
+    adds_boolean b made new (name, line) refl refl refl (called (refusal_of_boolean name b) b (length b.booleans) made new e)
 form_grows b new line (Goal sense sum constant) e = goal_grows b new line sense sum constant e
 form_grows b new line (Row sum rel right) e = row_grows b new line sum rel right e
 form_grows b new line (Disjunction mode) e =
     let made : BuildingValue = record b { opened = Some (record { mode = mode; mark = line; closed = [] }) } in
-    keeps_both b made new refl refl (called (build_refuse_if (is_some b.opened) refusal.Place None) b tt made new e)
+    keeps_all b made new refl refl refl (called (build_refuse_if (is_some b.opened) refusal.Place None) b tt made new e)
 form_grows b new line (Disjunct name) e = disjunct_grows b new line name b.opened e
 form_grows b new line End e = end_grows b new b.opened e
 
 -- what a line after the header adds
-record Adds (t next : Taken) (vars : List VarValue) (booleans : List BooleanValue) : Type 0 where
+record Adds (t next : Taken) (vars : List VarValue) (booleans : List BooleanValue) (goals : List ℕ) : Type 0 where
   headed : next.headed ≡ t.headed
-  grows : Grows t.building next.building vars booleans
+  grows : Grows t.building next.building vars booleans goals
 
-tokens_add : (t next : Taken) (line : ℕ) (ps : List Piece) → with_tokens t line ps ≡ Ok next → Adds t next (var_in line (form_of ps)) (boolean_in line (form_of ps))
+tokens_add : (t next : Taken) (line : ℕ) (ps : List Piece) → with_tokens t line ps ≡ Ok next → Adds t next (var_in line (form_of ps)) (boolean_in line (form_of ps)) (goal_in line (form_of ps))
 tokens_add t next line [] e =
     let same : t ≡ next = cc e in
     record { headed = ap (λ (x : Taken). x.headed) (sym same); grows = grows_none t.building next.building (ap (λ (x : Taken). x.building) same) }
@@ -151,8 +177,8 @@ tokens_add t next line (p ∷ ps) e =
     let made : Taken = record t { building = building.0 } in
     let last : Ok made ≡ Ok next = building.2 in
     let same : made ≡ next = cc last in
-    subst (λ (r : Result Form ReadCause). Adds t next (var_in line r) (boolean_in line r)) (sym form.1)
-    (subst (λ (n : Taken). Adds t n (var_in line (Ok form.0)) (boolean_in line (Ok form.0))) same
+    subst (λ (r : Result Form ReadCause). Adds t next (var_in line r) (boolean_in line r) (goal_in line r)) (sym form.1)
+    (subst (λ (n : Taken). Adds t n (var_in line (Ok form.0)) (boolean_in line (Ok form.0)) (goal_in line (Ok form.0))) same
     (record { headed = refl; grows = form_grows t.building building.0 line form.0 building.1 }))
 
 -- a line that is no `logic` line adds what its content says
@@ -167,12 +193,12 @@ headed_line t line content h = ap (λ (b : Bool). if b then with_tokens t line (
 first_line : (t : Taken) (line : ℕ) (content : List ℕ) → t.headed ≡ false → with_content t line content ≡ with_header t (words_of content)
 first_line t line content h = ap (λ (b : Bool). if b then with_tokens t line (tokens_of content) else with_header t (words_of content)) h
 
-line_adds : (t next : Taken) (line : ℕ) (l : List ℕ) → t.headed ≡ true → with_line t line l ≡ Ok next → Adds t next (var_in line (form_on l)) (boolean_in line (form_on l))
+line_adds : (t next : Taken) (line : ℕ) (l : List ℕ) → t.headed ≡ true → with_line t line l ≡ Ok next → Adds t next (var_in line (form_on l)) (boolean_in line (form_on l)) (goal_in line (form_on l))
 line_adds t next line l h e =
     tokens_add t next line (tokens_of (without_comment l)) (sym (headed_line t line (without_comment l) h) ∙ content_adds t next line l e)
 
 -- the lines after the header add their variables and Booleans
-lines_add : (line : ℕ) (t after : Taken) (ls : List (List ℕ)) → t.headed ≡ true → Leads line t ls after → Grows t.building after.building (vars_from line ls) (booleans_from line ls)
+lines_add : (line : ℕ) (t after : Taken) (ls : List (List ℕ)) → t.headed ≡ true → Leads line t ls after → Grows t.building after.building (vars_from line ls) (booleans_from line ls) (goals_from line ls)
 lines_add line t after [] h e = grows_none t.building after.building (ap (λ (x : Taken). x.building) e)
 lines_add line t after (l ∷ ls) h lead =
     let one = line_adds t lead.0 line l h lead.1 in
@@ -180,6 +206,7 @@ lines_add line t after (l ∷ ls) h lead =
     record {
       vars_after = more.vars_after ∙ ap (λ (xs : List VarValue). xs ++ vars_from (line + 1) ls) one.grows.vars_after ∙ append_assoc t.building.vars (var_in line (form_on l)) (vars_from (line + 1) ls);
       booleans_after = more.booleans_after ∙ ap (λ (xs : List BooleanValue). xs ++ booleans_from (line + 1) ls) one.grows.booleans_after ∙ append_assoc t.building.booleans (boolean_in line (form_on l)) (booleans_from (line + 1) ls);
+      goals_after = more.goals_after ∙ ap (λ (xs : List ℕ). xs ++ goals_from (line + 1) ls) one.grows.goals_after ∙ append_assoc (goal_marks t.building.goal) (goal_in line (form_on l)) (goals_from (line + 1) ls);
     }
 
 -- the test was passed
@@ -246,6 +273,11 @@ ends t m e =
     let test = bind_ok (refuse_if (not t.headed) cause.Header) _ m e in
     record { headed = passed t.headed cause.Header test.0 test.1; made = made_model (refusal_of_finish t.building) (built_model t.building) m test.2 }
 
+-- the goal of the lines with the marks of the goal that was given
+goal_is : (given : Option GoalValue) → IsGoalOf (goal_marks given) (goal_of given)
+goal_is None = refl
+goal_is (Some goal) = refl
+
 pub laid_out : LaidOut
 laid_out text m s =
     let end = ends s.0 m s.2 in
@@ -261,4 +293,6 @@ laid_out text m s =
       is_first = h.is_first;
       vars = ap (λ (x : ModelTree). x.vars) (sym end.made) ∙ grown.vars_after ∙ ap (λ (n : ℕ). vars_from n h.others) line;
       booleans = ap (λ (x : ModelTree). x.booleans) (sym end.made) ∙ grown.booleans_after ∙ ap (λ (n : ℕ). booleans_from n h.others) line;
+      goal = subst (λ (xs : List ℕ). IsGoalOf xs m.goal) (grown.goals_after ∙ ap (λ (n : ℕ). goals_from n h.others) line)
+          (subst (λ (x : ModelTree). IsGoalOf (goal_marks s.0.building.goal) x.goal) end.made (goal_is s.0.building.goal));
     }

@@ -1,9 +1,10 @@
 -- What the lines of a text declare, each for itself.
-use Rattle.std.specs.Prelude.{ℕ, ◌+◌, Bool, not, List, [], ◌∷◌, ◌++◌, Option, None, Some, Result, Ok}
+use Rattle.std.specs.Prelude.{◌≡◌, ℕ, ◌+◌, Bool, not, List, [], ◌∷◌, ◌++◌, Option, None, Some, Result, Ok}
 use Rattle.fractions.specs.Fraction.{Fraction}
+use Rattle.block_tree.specs.Values.{GoalValue, no_goal}
 use Rattle.block_tree.specs.Variables.{VarValue, BooleanValue}
 use Rattle.gdp_grammar.specs.declared.cause.ReadCause.{ReadCause}
-use Rattle.gdp_grammar.specs.Forms.{Form, Var, Boolean, Disjunct, Signed, form_of}
+use Rattle.gdp_grammar.specs.Forms.{Form, Var, Boolean, Goal, Disjunct, Signed, form_of}
 use Rattle.gdp_grammar.specs.Lines.{without_comment}
 use Rattle.gdp_grammar.specs.Numerals.{value_of}
 use Rattle.gdp_grammar.specs.Tokens.{tokens_of}
@@ -33,6 +34,11 @@ boolean_in line (Ok (Boolean name)) = (name, line) ∷ []
 boolean_in line (Ok (Disjunct name)) = (name, line) ∷ []
 boolean_in line _ = []
 
+-- the number of a line of this form, if it is a goal's
+abbrev pub goal_in : ℕ → Result Form ReadCause → List ℕ
+goal_in line (Ok (Goal sense sum constant)) = line ∷ []
+goal_in line _ = []
+
 -- the variables of these lines in order, the first of which has this number
 abbrev pub vars_from : ℕ → List (List ℕ) → List VarValue
 vars_from line [] = []
@@ -42,3 +48,15 @@ vars_from line (l ∷ ls) = var_in line (form_on l) ++ vars_from (line + 1) ls
 abbrev pub booleans_from : ℕ → List (List ℕ) → List BooleanValue
 booleans_from line [] = []
 booleans_from line (l ∷ ls) = boolean_in line (form_on l) ++ booleans_from (line + 1) ls
+
+-- the numbers of the goals among these lines, the first of which has this number
+abbrev pub goals_from : ℕ → List (List ℕ) → List ℕ
+goals_from line [] = []
+goals_from line (l ∷ ls) = goal_in line (form_on l) ++ goals_from (line + 1) ls
+
+-- The goal is that of the lines with these numbers: of none the goal of a model without, of one the goal with its number
+-- as the mark, and of more there is none.
+abbrev pub IsGoalOf : List ℕ → GoalValue → Type 0
+IsGoalOf [] goal = goal ≡ no_goal
+IsGoalOf (line ∷ []) goal = goal.mark ≡ line
+IsGoalOf (line ∷ other ∷ lines) goal = ⊥

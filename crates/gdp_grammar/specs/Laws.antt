@@ -4,7 +4,7 @@ use Rattle.std.specs.List.{list_all}
 use Rattle.block_tree.specs.Values.{ModelTree}
 use Rattle.gdp_grammar.specs.declared.cause.ReadCause.{ReadCause}
 use Rattle.gdp_grammar.specs.declared.cause.ReadCause.TheVariants as cause
-use Rattle.gdp_grammar.specs.Declaring.{is_blank, vars_from, booleans_from}
+use Rattle.gdp_grammar.specs.Declaring.{is_blank, vars_from, booleans_from, goals_from, IsGoalOf}
 use Rattle.gdp_grammar.specs.Lines.{lines_of, without_comment}
 use Rattle.gdp_grammar.specs.Reading.{is_header}
 use Rattle.gdp_grammar.specs.Spelling.{Spells, IsFirstBad}
@@ -27,8 +27,8 @@ NeverBoth = (text : List ℕ) (m : ModelTree) (line : ℕ) (cause : ReadCause) �
 abbrev pub OneFirstBad : Type 0
 OneFirstBad = (text : List ℕ) (line line' : ℕ) (cause cause' : ReadCause) → IsFirstBad text line cause → IsFirstBad text line' cause' → (line ≡ line') × (cause ≡ cause')
 
--- The text is blank lines, the header, and further lines. Those declare the model's variables, in order, and its
--- Booleans, in order, each with the number of its line as its mark.
+-- The text is blank lines, the header, and further lines. Those declare the model's variables, in order, its Booleans,
+-- in order, and its goal, each with the number of its line as its mark.
 pub record IsLaidOut (text : List ℕ) (m : ModelTree) : Type 0 where
   pub blank : List (List ℕ)
   pub header : List ℕ
@@ -38,6 +38,7 @@ pub record IsLaidOut (text : List ℕ) (m : ModelTree) : Type 0 where
   pub is_first : is_header (words_of (without_comment header)) ≡ true
   pub vars : m.vars ≡ vars_from (length blank + 2) lines
   pub booleans : m.booleans ≡ booleans_from (length blank + 2) lines
+  pub goal : IsGoalOf (goals_from (length blank + 2) lines) m.goal
 
 -- a text that spells a model is laid out so
 abbrev pub LaidOut : Type 0

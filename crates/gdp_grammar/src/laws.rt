@@ -22,12 +22,12 @@ pub fn one_first_bad()
     ensures { OneFirstBad }
 {}
 
-/// A text that spells a model is blank lines, the header, and the lines of its variables and rows in order.
+/// A text that spells a model is blank lines, the header, and lines that declare its variables, its Booleans and its goal.
 pub fn laid_out()
     ensures { LaidOut }
 {}
 
-/// A text of three lines spells its model, and two texts have no header.
+/// Two texts spell their models, one of them with a choice of blocks, and three have a first bad line.
 pub fn worked_texts()
     ensures { WorkedTexts }
 {}

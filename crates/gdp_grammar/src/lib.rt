@@ -3,7 +3,7 @@
 //! The definitions stand in `specs/`, to be read in the order Classes, Lines, Words, Tokens, Forms, Spelling, Points;
 //! the code here is the enumerations that they share with the readers and the printer. A reader of texts
 //! is right where it answers what `Spells` says. What makes `Spells` trustworthy stands in `laws.rt`: one model for a
-//! text or one first bad line, the variables and rows in the order of their lines, and worked texts.
+//! text or one first bad line, the variables and Booleans in the order of their lines, and worked texts.
 #![tactic(auto)]
 
 pub mod cause;
