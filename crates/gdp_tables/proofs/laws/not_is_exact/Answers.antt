@@ -1,0 +1,5 @@
+use Rattle.gdp_tables.proofs.Exact.{not_exact}
+use Rattle.gdp_tables.proofs.laws.not_is_exact.Goals as goal
+
+pub returns : goal.returns
+returns c = not_exact

@@ -1,0 +1,5 @@
+use Rattle.gdp_tables.proofs.Exact.{same_exact}
+use Rattle.gdp_tables.proofs.laws.same_is_exact.Goals as goal
+
+pub returns : goal.returns
+returns c = same_exact

@@ -1,0 +1,4 @@
+pub mod Completions
+pub mod Keywords
+pub mod Laws
+pub mod Readings
