@@ -1,8 +1,7 @@
 -- One more term of a sum of products, in the exact sum and in the test that nothing is wide.
-use Rattle.std.proofs.Common.{◌≡◌, true, false, Bool, pos, Result, Ok, Err, ◌+ℤ◌, ◌*ℤ◌, ◌&&◌, if◌then◌else◌, ℕ, ◌+◌, ◌<◌, ℤ, List, [], ◌∷◌, length, drop, slice_index_or, refl, sym, ◌∙◌, ap, arith, add-one, drop-cons}
+use Rattle.std.proofs.Common.{◌≡◌, true, false, Bool, pos, Err, ◌+ℤ◌, ◌*ℤ◌, ℕ, ◌+◌, ◌<◌, ℤ, List, ◌∷◌, length, drop, slice_index_or, sym, ◌∙◌, arith, add-one, drop-cons}
 use Rattle.std.proofs.lemmas.Int.{ints}
-use Rattle.fractions.specs.declared.wide.Wide.{Wide}
-use Rattle.fractions.specs.Width.{fits, step_fits, wide}
+use Rattle.fractions.specs.Width.{step_fits, wide}
 use Rattle.int_linear.specs.Terms.{dot}
 use Rattle.lp_rows.specs.Holding.{ids_below, sum_fits, sum_or_wide}
 

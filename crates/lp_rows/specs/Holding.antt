@@ -1,5 +1,5 @@
 -- Whether a row holds at a point, and, apart from it, whether the numbers on the way fit 128 bits.
-use Rattle.std.specs.Prelude.{ℕ, ℤ, pos, ◌+ℤ◌, ◌*ℤ◌, Bool, true, ◌&&◌, List, [], ◌∷◌, Result, Ok, Err, if◌then◌else◌, nat_lt, int_le, length}
+use Rattle.std.specs.Prelude.{ℕ, ℤ, pos, ◌+ℤ◌, ◌*ℤ◌, Bool, true, ◌&&◌, List, [], ◌∷◌, Result, Ok, Err, if◌then◌else◌, nat_lt, int_le}
 use Rattle.std.specs.List.{list_all}
 use Rattle.fractions.specs.declared.wide.Wide.{Wide}
 use Rattle.fractions.specs.Width.{fits, step_fits, wide}

@@ -1,4 +1,4 @@
-use Rattle.std.proofs.Common.{rules, ◌≡◌, pos, ℕ, ℤ, ◌+ℤ◌, ◌*ℤ◌, slice_index_or, FitsSigned, to_z, of_z}
+use Rattle.std.proofs.Common.{rules, pos, ℕ, ℤ, slice_index_or, FitsSigned, to_z}
 use Rattle.std.proofs.lemmas.Int.{to_z-of_z}
 use Rattle.int_linear.specs.Sums.{at}
 use Rattle.lp_rows.proofs.Steps.{below_goes_on, value_goes_on, fit_goes_on, wide_here}
