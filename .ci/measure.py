@@ -19,14 +19,13 @@ TURNS = 5
 
 def measured(command, folder):
     """Runs the command once, and gives its seconds, those of the processor, its peak memory in bytes, and its answer."""
-    read, write = os.pipe()
-    begun = time.perf_counter()
-    child = subprocess.Popen(command, cwd=folder, stdout=write if command[0] != "cat" else subprocess.DEVNULL)
-    os.close(write)
-    _, status, usage = os.wait4(child.pid, 0)
-    seconds = time.perf_counter() - begun
-    with os.fdopen(read, "rb") as pipe:
-        out = pipe.read()
+    with tempfile.TemporaryFile() as out_file:
+        begun = time.perf_counter()
+        child = subprocess.Popen(command, cwd=folder, stdout=out_file if command[0] != "cat" else subprocess.DEVNULL)
+        _, status, usage = os.wait4(child.pid, 0)
+        seconds = time.perf_counter() - begun
+        out_file.seek(0)
+        out = out_file.read()
     said = f"`{out.decode().strip()}`" if len(out) < 80 else f"{len(out):,} bytes"
     answer = f"{said}, status {os.waitstatus_to_exitcode(status)}"
     return seconds, usage.ru_utime + usage.ru_stime, usage.ru_maxrss * 1024, answer
