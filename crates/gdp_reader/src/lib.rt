@@ -2,8 +2,8 @@
 //! first bad line with its cause.
 //!
 //! A model text is cut into lines (`line.rt`), a line into tokens (`token.rt`), the tokens are read as a line form
-//! (`form.rt`), and a form adds to the model that is being built (`building.rt`, `model.rt`). A point text is read by
-//! the words of its lines (`word.rt`, `point.rt`).
+//! (`form.rt`), and a form adds to the model that is being built (`building.rt`, `model.rt`). A line of a point text is
+//! read by its words (`word.rt`, `point_form.rt`), and adds to what the point has so far (`point_taking.rt`, `point.rt`).
 #![tactic(auto)]
 
 mod building;
@@ -19,6 +19,8 @@ mod model_tests;
 mod point;
 mod point_form;
 mod point_taking;
+#[cfg(test)]
+mod point_tests;
 mod token;
 mod value;
 mod word;
