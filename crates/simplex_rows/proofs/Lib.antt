@@ -7,3 +7,4 @@ pub mod Dropped
 pub mod Feasible
 pub mod Narrow
 pub mod Factors
+pub mod Small

@@ -140,7 +140,6 @@ impl Row {
         if self.entries[enter] == 0 {
             return;
         }
-        clear_entries(&mut self.entries, &pivot.entries, enter);
-        self.small = is_small(&self.entries);
+        self.small = clear_entries(&mut self.entries, &pivot.entries, enter);
     }
 }

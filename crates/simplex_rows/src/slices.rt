@@ -8,7 +8,8 @@ ghost use Rattle.simplex_rows.specs.Dropped.{without};
 ghost use Rattle.simplex_rows.specs.Width.{IsNarrowBy, IsFirstWideBy, IsNarrowStepOf, IsFirstWideStep, IsNarrowRow};
 
 use crate::steps::{
-    divisor_with, entry_quotient, factors, has_step, is_narrow_step, is_negative, step_entry,
+    divisor_with, entry_quotient, factors, has_step, is_narrow_step, is_negative, is_small_too,
+    step_entry,
 };
 
 /// The greatest common divisor of the entries, left as soon as it is 1.
@@ -50,17 +51,34 @@ pub(crate) fn first_wide_by(a: i128, b: i128, entries: &[i128], pivot: &[i128]) 
     None
 }
 
-/// Takes `b` times the pivot row from `a` times the row; where both are 0, nothing is to be done.
-pub(crate) fn step_entries(a: i128, b: i128, entries: &mut [i128], pivot: &[i128])
+/// Takes `b` times the pivot row from `a` times the row; where both are 0, nothing is to be done. It says whether
+/// every entry is below 2 ^ 62 then, so that no second pass has to look.
+pub(crate) fn step_entries(a: i128, b: i128, entries: &mut [i128], pivot: &[i128]) -> bool
     requires same { length entries.old ≡ length pivot.now }
     requires narrow { IsNarrowBy (length entries.old) a b (at entries.old) (at pivot.now) }
-    ensures { IsStepped (length entries.old) a b (at entries.old) (at pivot.now) (at entries.new) }
+    ensures stepped { IsStepped (length entries.old) a b (at entries.old) (at pivot.now) (at entries.new) }
+    ensures small { IsTrue result ↔ ((j : ℕ) → j < length entries.old → unsigned_abs (at entries.new j) < 2 ^ 62) }
 {
+    let mut small = true;
     for j in 0..entries.len() {
         if has_step(entries[j], pivot[j]) {
-            entries[j] = step_entry(a, b, entries[j], pivot[j]);
+            let value = step_entry(a, b, entries[j], pivot[j]);
+            entries[j] = value;
+            small = is_small_too(small, value);
         }
     }
+    small
+}
+
+/// Whether every entry is below 2 ^ 62, where that may be known.
+pub(crate) fn is_small_or(known: bool, entries: &[i128]) -> bool
+    requires { IsTrue known → (j : ℕ) → j < length entries.now → unsigned_abs (at entries.now j) < 2 ^ 62 }
+    ensures { IsTrue result ↔ ((j : ℕ) → j < length entries.now → unsigned_abs (at entries.now j) < 2 ^ 62) }
+{
+    if known {
+        return true;
+    }
+    is_small(entries)
 }
 
 /// Divides each entry by a positive divisor of all.
@@ -99,8 +117,8 @@ pub(crate) fn make_primitive(entries: &mut [i128])
     divide_entries(entries, divisor as i128);
 }
 
-/// Clears a row with an entry in the entering column by the pivot row.
-pub(crate) fn clear_entries(entries: &mut [i128], pivot: &[i128], enter: usize)
+/// Clears a row with an entry in the entering column by the pivot row, and says whether every entry is below 2 ^ 62.
+pub(crate) fn clear_entries(entries: &mut [i128], pivot: &[i128], enter: usize) -> bool
     requires within { enter < length entries.old }
     requires same { length entries.old ≡ length pivot.now }
     requires positive { pos 0 <ℤ at pivot.now enter }
@@ -108,10 +126,12 @@ pub(crate) fn clear_entries(entries: &mut [i128], pivot: &[i128], enter: usize)
     requires kept { KeepsEntry (length entries.old) (at entries.old) (at pivot.now) }
     ensures cleared { IsCleared (length entries.old) enter (at entries.old) (at pivot.now) (at entries.new) }
     ensures narrow { IsNarrowRow (at entries.new) }
+    ensures small { IsTrue result ↔ ((j : ℕ) → j < length entries.old → unsigned_abs (at entries.new j) < 2 ^ 62) }
 {
     let (a, b) = factors(pivot[enter], entries[enter]);
-    step_entries(a, b, entries, pivot);
+    let small = step_entries(a, b, entries, pivot);
     make_primitive(entries);
+    is_small_or(small, entries)
 }
 
 /// None where the row can be cleared of the entering column with narrow steps, or the first column where not.

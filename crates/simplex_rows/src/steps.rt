@@ -1,6 +1,6 @@
 //! The arithmetic of one entry.
 
-ghost use Rattle.std.specs.Prelude.{◌≡◌, false, pos, ◌*ℤ◌, ◌-ℤ◌, ◌<ℤ◌, ◌≤ℤ◌, unsigned_abs, MatchBool, SomeIff, IsTrue, ◌↔◌};
+ghost use Rattle.std.specs.Prelude.{◌≡◌, ◌<◌, ◌^◌, false, pos, ◌*ℤ◌, ◌-ℤ◌, ◌<ℤ◌, ◌≤ℤ◌, unsigned_abs, MatchBool, SomeIff, IsTrue, ◌↔◌};
 ghost use Rattle.std.specs.Int.{IsGcd, ◌∣◌};
 ghost use Rattle.fractions.specs.Width.{IsNarrow};
 ghost use Rattle.simplex_rows.specs.Width.{IsFactors, IsNarrowStep};
@@ -62,6 +62,14 @@ pub(crate) fn step_entry(a: i128, b: i128, entry: i128, pivot: i128) -> i128
     ensures { result ≡ a *ℤ entry -ℤ b *ℤ pivot }
 {
     a * entry - b * pivot
+}
+
+/// Whether the number is below 2 ^ 62, and those before it are.
+#[inline(always)]
+pub(crate) fn is_small_too(small: bool, value: i128) -> bool
+    ensures { IsTrue result ↔ IsTrue small × (unsigned_abs value < 2 ^ 62) }
+{
+    small && value.unsigned_abs() < 0x4000_0000_0000_0000
 }
 
 /// Whether the number is negative.
