@@ -18,3 +18,5 @@ pub mod Worked
 pub mod Owning
 pub mod Holding
 pub mod Nests
+pub mod OwnedLines
+pub mod PointGrown

@@ -33,11 +33,11 @@ other_apart : (j k : ℕ) → (k ≡ j → ⊥) → eqb j k ≡ false
 other_apart j k apart = grind (arith, nat_tests)
 
 -- a line that is none of an owner's, and one that is
-owned_other : (kinds : Kinds) (test : LineKind → Bool) (o : Option ℕ) (n : ℕ) → (test (kinds n) && same_owner o (owner kinds n)) ≡ false → owned kinds test o (suc n) ≡ owned kinds test o n
+pub owned_other : (kinds : Kinds) (test : LineKind → Bool) (o : Option ℕ) (n : ℕ) → (test (kinds n) && same_owner o (owner kinds n)) ≡ false → owned kinds test o (suc n) ≡ owned kinds test o n
 unfolding owned
 owned_other kinds test o n e = ap (λ l. owned kinds test o n ++ l) (cond-false (test (kinds n) && same_owner o (owner kinds n)) (n ∷ []) [] e) ∙ append-nil (owned kinds test o n)
 
-owned_more : (kinds : Kinds) (test : LineKind → Bool) (o : Option ℕ) (n : ℕ) → (test (kinds n) && same_owner o (owner kinds n)) ≡ true → owned kinds test o (suc n) ≡ owned kinds test o n ++ n ∷ []
+pub owned_more : (kinds : Kinds) (test : LineKind → Bool) (o : Option ℕ) (n : ℕ) → (test (kinds n) && same_owner o (owner kinds n)) ≡ true → owned kinds test o (suc n) ≡ owned kinds test o n ++ n ∷ []
 unfolding owned
 owned_more kinds test o n e = ap (λ l. owned kinds test o n ++ l) (cond-true (test (kinds n) && same_owner o (owner kinds n)) (n ∷ []) [] e)
 

@@ -22,3 +22,4 @@ pub mod Spelling
 pub mod Tokens
 pub mod Words
 pub mod Worked
+pub mod PointDeclaring

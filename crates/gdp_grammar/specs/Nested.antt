@@ -1,10 +1,10 @@
 -- How the tree of a model is nested: as the lines of its text are.
-use Rattle.std.specs.Prelude.{◌≡◌, ℕ, zero, suc, ◌+◌, Bool, true, false, ◌&&◌, ◌==◌, List, [], ◌∷◌, ◌++◌, map, length, Option, None, Some, if◌then◌else◌}
+use Rattle.std.specs.Prelude.{◌≡◌, ◌<◌, ◌⊎◌, ℕ, zero, suc, ◌+◌, Bool, true, false, ◌&&◌, ◌==◌, List, [], ◌∷◌, ◌++◌, map, length, Option, None, Some, if◌then◌else◌}
 use Rattle.lp_rows.specs.Rows.{RowValue}
 use Rattle.block_tree.specs.Tree.{BlockTree, block, Disjunctions, no_disjunctions, disjunction, Disjuncts, no_disjuncts, disjunct}
 use Rattle.block_tree.specs.Values.{ModelTree}
 use Rattle.gdp_grammar.specs.Lines.{lines_of}
-use Rattle.gdp_grammar.specs.Owners.{LineKind, Kinds, kinds_of, is_row, is_disjunction, is_disjunct, owner, IsNested}
+use Rattle.gdp_grammar.specs.Owners.{LineKind, Kinds, kinds_of, is_row, is_disjunction, is_disjunct, owner, IsOwner, IsNested}
 use Rattle.gdp_grammar.specs.Spelling.{Spells}
 
 abbrev pub same_owner : Option ℕ → Option ℕ → Bool
@@ -21,6 +21,26 @@ owned_line kinds test o n = if test (kinds n) && same_owner o (owner kinds n) th
 unfoldable pub owned : Kinds → (LineKind → Bool) → Option ℕ → ℕ → List ℕ
 owned kinds test o zero = []
 owned kinds test o (suc n) = owned kinds test o n ++ owned_line kinds test o n
+
+-- the number stands in the list
+abbrev pub StandsIn : ℕ → List ℕ → Type 0
+StandsIn k [] = ⊥
+StandsIn k (x ∷ xs) = (x ≡ k) ⊎ StandsIn k xs
+
+-- each number is less than those after it
+abbrev pub Ascends : List ℕ → Type 0
+Ascends [] = Unit {0}
+Ascends (x ∷ xs) = ((k : ℕ) → StandsIn k xs → x < k) × Ascends xs
+
+-- these are, in order, the lines before line n that pass the test and have this owner, and no others
+pub record AreOwned (kinds : Kinds) (test : LineKind → Bool) (o : Option ℕ) (n : ℕ) (lines : List ℕ) : Type 0 where
+  pub in_order : Ascends lines
+  pub each_owned : (k : ℕ) → StandsIn k lines → (k < n) × (test (kinds k) ≡ true) × IsOwner kinds k o
+  pub each_there : (k : ℕ) → k < n → test (kinds k) ≡ true → IsOwner kinds k o → StandsIn k lines
+
+-- the lines that are found to be owned are those
+abbrev pub OwnedFound : Type 0
+OwnedFound = (kinds : Kinds) (test : LineKind → Bool) (o : Option ℕ) (n : ℕ) → IsNested kinds n → AreOwned kinds test o n (owned kinds test o n)
 
 -- before line n this owner has these rows, disjunctions and disjuncts
 pub record Owns (kinds : Kinds) (n : ℕ) (o : Option ℕ) (rows disjunctions disjuncts : List ℕ) : Type 0 where

@@ -1,6 +1,6 @@
 //! The laws of nesting, each the contract of a function with an empty body.
 
-ghost use Rattle.gdp_grammar.specs.Nested.{NestedAsSpelled};
+ghost use Rattle.gdp_grammar.specs.Nested.{NestedAsSpelled, OwnedFound};
 ghost use Rattle.gdp_grammar.specs.Owners.{OwnerFound, OneOwner};
 
 /// The owner of a line is the last line before it that opens what isn't closed before it.
@@ -12,6 +12,11 @@ pub fn owner_found()
 pub fn one_owner()
     ensures { OneOwner }
 {}
+/// The lines that are found to be an owner's are those that it owns, in order, and no others.
+pub fn owned_found()
+    ensures { OwnedFound }
+{}
+
 /// A model that a text spells is nested as the lines of the text are.
 pub fn nested_as_spelled()
     ensures { NestedAsSpelled }

@@ -1,5 +1,6 @@
 //! The laws of point texts, each the contract of a function with an empty body.
 
+ghost use Rattle.gdp_grammar.specs.PointDeclaring.{LaidOutPoint};
 ghost use Rattle.gdp_grammar.specs.PointLaws.{OnePoint, PointOrBad, NeverPointAndBad, OneFirstBadOfPoint};
 
 /// A text spells at most one point of a model.
@@ -20,4 +21,9 @@ pub fn never_point_and_bad()
 /// A text has at most one first bad line as a point of the model, with one cause.
 pub fn one_first_bad_of_point()
     ensures { OneFirstBadOfPoint }
+{}
+
+/// A point that a text spells is what the lines of the text say, each for itself.
+pub fn laid_out_point()
+    ensures { LaidOutPoint }
 {}
