@@ -20,3 +20,4 @@ pub mod Holding
 pub mod Nests
 pub mod OwnedLines
 pub mod PointGrown
+pub mod WorkedPoints

@@ -23,3 +23,4 @@ pub mod Tokens
 pub mod Words
 pub mod Worked
 pub mod PointDeclaring
+pub mod WorkedPoints

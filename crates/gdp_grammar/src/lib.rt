@@ -1,9 +1,12 @@
 //! What the texts spell: bytes, lines, tokens, line forms, and the model or point that they give.
 //!
-//! The definitions stand in `specs/`, to be read in the order Classes, Lines, Words, Tokens, Forms, Spelling, Points;
-//! the code here is the enumerations that they share with the readers and the printer. A reader of texts
-//! is right where it answers what `Spells` says. What makes `Spells` trustworthy stands in `laws.rt`: one model for a
-//! text or one first bad line, the variables and Booleans in the order of their lines, and worked texts.
+//! The definitions stand in `specs/`, to be read in the order Classes, Lines, Words, Tokens, Forms, Reading, Spelling for
+//! model texts, and then PointForms, PointReading, LineGrammars, Points for point texts; the code here is the enumerations
+//! that they share with the readers and the printer. A reader of texts is right where it answers what `Spells` and
+//! `SpellsPoint` say. What makes these trustworthy stands in the files of laws: one model or point for a text or one
+//! first bad line, what the lines declare each for itself, and worked texts (`laws.rt`, `point_laws.rt`); that the tree is
+//! nested as the lines are, by the owner of each line (`nesting_laws.rt`); and that texts may come in any pieces
+//! (`feeding.rt`).
 #![tactic(auto)]
 
 pub mod cause;

@@ -2,6 +2,7 @@
 
 ghost use Rattle.gdp_grammar.specs.Nested.{NestedAsSpelled, OwnedFound};
 ghost use Rattle.gdp_grammar.specs.Owners.{OwnerFound, OneOwner};
+ghost use Rattle.gdp_grammar.specs.WorkedPoints.{WorkedOwners};
 
 /// The owner of a line is the last line before it that opens what isn't closed before it.
 pub fn owner_found()
@@ -20,4 +21,9 @@ pub fn owned_found()
 /// A model that a text spells is nested as the lines of the text are.
 pub fn nested_as_spelled()
     ensures { NestedAsSpelled }
+{}
+
+/// In a text with a choice the lines own what they are to own.
+pub fn worked_owners()
+    ensures { WorkedOwners }
 {}

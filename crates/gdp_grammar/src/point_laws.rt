@@ -2,6 +2,7 @@
 
 ghost use Rattle.gdp_grammar.specs.PointDeclaring.{LaidOutPoint};
 ghost use Rattle.gdp_grammar.specs.PointLaws.{OnePoint, PointOrBad, NeverPointAndBad, OneFirstBadOfPoint};
+ghost use Rattle.gdp_grammar.specs.WorkedPoints.{WorkedPoints};
 
 /// A text spells at most one point of a model.
 pub fn one_point()
@@ -26,4 +27,9 @@ pub fn one_first_bad_of_point()
 /// A point that a text spells is what the lines of the text say, each for itself.
 pub fn laid_out_point()
     ensures { LaidOutPoint }
+{}
+
+/// A text spells its point, and three texts go wrong where they are to.
+pub fn worked_points()
+    ensures { WorkedPoints }
 {}
