@@ -6,18 +6,20 @@ use Rattle.block_tree.specs.declared.tree.Mode.{Mode}
 use Rattle.block_tree.specs.Building.{OpenBlock, OpenDisjunction, empty_block, closed_block}
 use Rattle.block_tree.specs.Nesting.{closed_disjunct, closed_disjunction}
 use Rattle.block_tree.specs.View.{disjuncts, disjunctions}
-use Rattle.gdp_grammar.specs.Nested.{same_owner, owned, Owns, row_marks, disjunction_marks, disjunct_marks, IsBlockOf}
-use Rattle.gdp_grammar.specs.Owners.{LineKind, RowLine, DisjunctionLine, DisjunctLine, EndLine, OtherLine, Kinds, is_row, is_disjunction, is_disjunct, is_end, depth, IsNested, open_after, open_before, first_of, owner}
+use Rattle.gdp_grammar.specs.Nested.{row_marks, disjunction_marks, disjunct_marks, IsBlockOf}
+use Rattle.gdp_grammar.specs.Stacks.{open_after, open_before, first_of, owner, same_owner, owned}
+use Rattle.gdp_grammar.specs.Owners.{LineKind, RowLine, DisjunctionLine, DisjunctLine, EndLine, OtherLine, Kinds, is_row, is_disjunction, is_disjunct, is_end, depth, IsNested}
+use Rattle.gdp_grammar.proofs.NestedTrees.{owns, disjunctions_nested}
 use Rattle.gdp_grammar.proofs.Owned.{some_depth}
-use Rattle.gdp_grammar.proofs.Owning.{same_self, other_below, Keeps, keep_kind, keep_owner, adds_row, adds_disjunction, adds_disjunct, Descends, descends, descends_more, new_owner, Gone, gone_now, DisjunctionsStand, DisjunctsStand, disjunctions_later, disjuncts_later, disjunctions_nested, disjunctions_push, disjuncts_push, disjunction_marks_push, disjunct_marks_push, row_marks_push}
+use Rattle.gdp_grammar.proofs.Owning.{Has, same_self, other_below, Keeps, keep_kind, keep_owner, adds_row, adds_disjunction, adds_disjunct, Descends, descends, descends_more, new_owner, Gone, gone_now, DisjunctionsStand, DisjunctsStand, disjunctions_later, disjuncts_later, disjunctions_push, disjuncts_push, disjunction_marks_push, disjunct_marks_push, row_marks_push}
 
 -- an open block has what its owner has, where a disjunction that is open in it is pending
 abbrev pub BlockHolds : Kinds → ℕ → OpenBlock → Option ℕ → List ℕ → Type 0
-BlockHolds kinds n o whose pending = Owns kinds n whose (row_marks o.rows) (disjunction_marks (disjunctions o.closed) ++ pending) [] × DisjunctionsStand kinds n (disjunctions o.closed)
+BlockHolds kinds n o whose pending = Has kinds n whose (row_marks o.rows) (disjunction_marks (disjunctions o.closed) ++ pending) [] × DisjunctionsStand kinds n (disjunctions o.closed)
 
 -- an open disjunction has what its line has, where a disjunct that is open in it is pending
 abbrev pub ChoiceHolds : Kinds → ℕ → OpenDisjunction → List ℕ → Type 0
-ChoiceHolds kinds n d pending = Owns kinds n (Some d.mark) [] [] (disjunct_marks (disjuncts d.closed) ++ pending) × DisjunctsStand kinds n (disjuncts d.closed)
+ChoiceHolds kinds n d pending = Has kinds n (Some d.mark) [] [] (disjunct_marks (disjuncts d.closed) ++ pending) × DisjunctsStand kinds n (disjuncts d.closed)
 
 -- the owner of what stands in an open block with these around it: the root has none
 abbrev pub block_owner : OpenBlock → List (OpenBlock × OpenDisjunction) → Option ℕ
@@ -171,7 +173,7 @@ row_holds kinds n inner None [] row is none h = record {
   nested = no_end kinds n RowLine is refl h.nested;
   lines = open_next kinds n RowLine [] is h.lines;
   block = (
-    subst (λ (rs : List ℕ). Owns kinds (suc n) None rs (disjunction_marks (disjunctions inner.closed) ++ []) []) (sym (row_marks_push inner.rows (row, n)))
+    subst (λ (rs : List ℕ). Has kinds (suc n) None rs (disjunction_marks (disjunctions inner.closed) ++ []) []) (sym (row_marks_push inner.rows (row, n)))
         (adds_row kinds n None (row_marks inner.rows) (disjunction_marks (disjunctions inner.closed) ++ []) [] is (ap (λ (st : List ℕ). same_owner None (first_of st)) h.lines) h.block.0),
     disjunctions_later kinds n (disjunctions inner.closed) h.block.1,
   );
@@ -182,7 +184,7 @@ row_holds kinds n inner None (p ∷ ps) row is none h = record {
   nested = no_end kinds n RowLine is refl h.nested;
   lines = open_next kinds n RowLine (inner.mark ∷ p.1.mark ∷ opening_lines p.0 ps) is h.lines;
   block = (
-    subst (λ (rs : List ℕ). Owns kinds (suc n) (Some inner.mark) rs (disjunction_marks (disjunctions inner.closed) ++ []) []) (sym (row_marks_push inner.rows (row, n)))
+    subst (λ (rs : List ℕ). Has kinds (suc n) (Some inner.mark) rs (disjunction_marks (disjunctions inner.closed) ++ []) []) (sym (row_marks_push inner.rows (row, n)))
         (adds_row kinds n (Some inner.mark) (row_marks inner.rows) (disjunction_marks (disjunctions inner.closed) ++ []) [] is (ap (λ (st : List ℕ). same_owner (Some inner.mark) (first_of st)) h.lines ∙ same_self (Some inner.mark)) h.block.0),
     disjunctions_later kinds n (disjunctions inner.closed) h.block.1,
   );
@@ -191,11 +193,11 @@ row_holds kinds n inner None (p ∷ ps) row is none h = record {
 }
 
 -- what is pending comes after what is closed
-pend_disjunction : (kinds : Kinds) (n m : ℕ) (whose : Option ℕ) (rows ds : List ℕ) → Owns kinds n whose rows ((ds ++ []) ++ m ∷ []) [] → Owns kinds n whose rows (ds ++ m ∷ []) []
-pend_disjunction kinds n m whose rows ds has = subst (λ (xs : List ℕ). Owns kinds n whose rows (xs ++ m ∷ []) []) (append-nil ds) has
+pend_disjunction : (kinds : Kinds) (n m : ℕ) (whose : Option ℕ) (rows ds : List ℕ) → Has kinds n whose rows ((ds ++ []) ++ m ∷ []) [] → Has kinds n whose rows (ds ++ m ∷ []) []
+pend_disjunction kinds n m whose rows ds has = subst (λ (xs : List ℕ). Has kinds n whose rows (xs ++ m ∷ []) []) (append-nil ds) has
 
-pend_disjunct : (kinds : Kinds) (n m : ℕ) (whose : Option ℕ) (js : List ℕ) → Owns kinds n whose [] [] ((js ++ []) ++ m ∷ []) → Owns kinds n whose [] [] (js ++ m ∷ [])
-pend_disjunct kinds n m whose js has = subst (λ (xs : List ℕ). Owns kinds n whose [] [] (xs ++ m ∷ [])) (append-nil js) has
+pend_disjunct : (kinds : Kinds) (n m : ℕ) (whose : Option ℕ) (js : List ℕ) → Has kinds n whose [] [] ((js ++ []) ++ m ∷ []) → Has kinds n whose [] [] (js ++ m ∷ [])
+pend_disjunct kinds n m whose js has = subst (λ (xs : List ℕ). Has kinds n whose [] [] (xs ++ m ∷ [])) (append-nil js) has
 
 -- a disjunction is opened in the innermost block
 pub disjunction_holds : (kinds : Kinds) (n : ℕ) (inner : OpenBlock) (opened : Option OpenDisjunction) (outer : List (OpenBlock × OpenDisjunction)) (mode : Mode) → kinds n ≡ DisjunctionLine → is_some opened ≡ false
@@ -259,10 +261,10 @@ joins_block kinds n inner d whose below is was b c =
     let old : List ℕ = disjunction_marks (disjunctions inner.closed) in
     let marks : disjunction_marks (disjunctions (inner.closed ++ closed_disjunction d ∷ [])) ++ [] ≡ old ++ d.mark ∷ [] =
     append-nil (disjunction_marks (disjunctions (inner.closed ++ closed_disjunction d ∷ []))) ∙ disjunction_marks_push inner.closed (closed_disjunction d) in (
-      subst (λ (xs : List ℕ). Owns kinds (suc n) whose (row_marks inner.rows) xs []) (sym marks) (keeps_by_end kinds n is whose (row_marks inner.rows) (old ++ d.mark ∷ []) [] b.0),
+      subst (λ (xs : List ℕ). Has kinds (suc n) whose (row_marks inner.rows) xs []) (sym marks) (keeps_by_end kinds n is whose (row_marks inner.rows) (old ++ d.mark ∷ []) [] b.0),
       disjunctions_push kinds (suc n) inner.closed (closed_disjunction d) (disjunctions_later kinds n (disjunctions inner.closed) b.1)
           (gone_now kinds n d.mark below was (open_next kinds n EndLine (d.mark ∷ below) is was))
-          (subst (λ (xs : List ℕ). Owns kinds (suc n) (Some d.mark) [] [] xs) (append-nil (disjunct_marks (disjuncts d.closed))) (keeps_by_end kinds n is (Some d.mark) [] [] (disjunct_marks (disjuncts d.closed) ++ []) c.0))
+          (subst (λ (xs : List ℕ). Has kinds (suc n) (Some d.mark) [] [] xs) (append-nil (disjunct_marks (disjuncts d.closed))) (keeps_by_end kinds n is (Some d.mark) [] [] (disjunct_marks (disjuncts d.closed) ++ []) c.0))
           (disjuncts_later kinds n (disjuncts d.closed) c.1),
     )
 
@@ -299,10 +301,10 @@ block_ends kinds n inner p ps is h =
       lines = open_next kinds n EndLine (inner.mark ∷ below) is h.lines;
       block = block_on kinds n p.0 (block_owner p.0 ps) (p.1.mark ∷ []) (keeps_by_end kinds n is (block_owner p.0 ps)) h.around.1;
       choice = (
-        subst (λ (xs : List ℕ). Owns kinds (suc n) (Some p.1.mark) [] [] xs) (sym marks) (keeps_by_end kinds n is (Some p.1.mark) [] [] (old ++ inner.mark ∷ []) h.around.0.0),
+        subst (λ (xs : List ℕ). Has kinds (suc n) (Some p.1.mark) [] [] xs) (sym marks) (keeps_by_end kinds n is (Some p.1.mark) [] [] (old ++ inner.mark ∷ []) h.around.0.0),
         disjuncts_push kinds (suc n) p.1.closed (closed_disjunct inner) (disjuncts_later kinds n (disjuncts p.1.closed) h.around.0.1)
             (gone_now kinds n inner.mark below h.lines (open_next kinds n EndLine (inner.mark ∷ below) is h.lines)) (
-              subst (λ (xs : List ℕ). Owns kinds (suc n) (Some inner.mark) (row_marks inner.rows) xs []) (append-nil (disjunction_marks (disjunctions inner.closed)))
+              subst (λ (xs : List ℕ). Has kinds (suc n) (Some inner.mark) (row_marks inner.rows) xs []) (append-nil (disjunction_marks (disjunctions inner.closed)))
                   (keeps_by_end kinds n is (Some inner.mark) (row_marks inner.rows) (disjunction_marks (disjunctions inner.closed) ++ []) [] h.block.0),
               disjunctions_later kinds n (disjunctions inner.closed) h.block.1,
             ),
@@ -313,6 +315,7 @@ block_ends kinds n inner p ps is h =
 -- where the root alone is open, its block is nested as the lines are
 pub root_nested : (kinds : Kinds) (n : ℕ) (inner : OpenBlock) → Holds kinds n inner None [] → IsBlockOf kinds n None (closed_block inner)
 root_nested kinds n inner h = (
-  subst (λ (xs : List ℕ). Owns kinds n None (row_marks inner.rows) xs []) (append-nil (disjunction_marks (disjunctions inner.closed))) h.block.0,
-  disjunctions_nested kinds n (disjunctions inner.closed) h.block.1,
+  owns kinds n None (row_marks inner.rows) (disjunction_marks (disjunctions inner.closed)) [] h.nested
+      (subst (λ (xs : List ℕ). Has kinds n None (row_marks inner.rows) xs []) (append-nil (disjunction_marks (disjunctions inner.closed))) h.block.0),
+  disjunctions_nested kinds n (disjunctions inner.closed) h.nested h.block.1,
 )

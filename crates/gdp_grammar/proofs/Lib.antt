@@ -21,3 +21,4 @@ pub mod Nests
 pub mod OwnedLines
 pub mod PointGrown
 pub mod WorkedPoints
+pub mod NestedTrees

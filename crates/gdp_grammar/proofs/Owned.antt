@@ -1,7 +1,8 @@
 -- The owner of a line.
 use Rattle.std.proofs.Common.{◌≡◌, ℕ, zero, suc, ◌-◌, ◌<◌, ◌≤◌, Bool, true, false, if◌then◌else◌, List, [], ◌∷◌, drop, Option, Some, None, refl, ap, sym, subst, ◌∙◌, ◌⊎◌, inl, inr, arith}
 use Rattle.std.proofs.lemmas.Bool.{cond-true, cond-false}
-use Rattle.gdp_grammar.specs.Owners.{LineKind, RowLine, DisjunctionLine, DisjunctLine, EndLine, OtherLine, Kinds, opens, is_end, count_before, depth, IsClosed, AllClosed, IsOwner, IsNested, open_after, open_before, first_of, owner, OwnerFound, OneOwner}
+use Rattle.gdp_grammar.specs.Stacks.{open_after, open_before, first_of, owner, OwnerFound}
+use Rattle.gdp_grammar.specs.Owners.{LineKind, RowLine, DisjunctionLine, DisjunctLine, EndLine, OtherLine, Kinds, opens, is_end, count_before, depth, IsClosed, AllClosed, IsOwner, IsNested, OneOwner}
 
 -- less, equal or greater
 compared : (a b : ℕ) → (a < b) ⊎ ((a ≡ b) ⊎ (b < a))

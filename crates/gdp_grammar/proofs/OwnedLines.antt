@@ -1,8 +1,9 @@
 -- The lines that an owner has, one after the other.
 use Rattle.std.proofs.Common.{◌≡◌, ℕ, zero, suc, ◌<◌, Bool, true, false, eqb, ◌&&◌, List, [], ◌∷◌, ◌++◌, Option, Some, None, refl, ap, sym, subst, ◌∙◌, ◌⊎◌, inl, inr, arith}
 use Rattle.std.proofs.lemmas.Bool.Decides.{nat_tests}
-use Rattle.gdp_grammar.specs.Nested.{same_owner, owned, StandsIn, Ascends, AreOwned, OwnedFound}
-use Rattle.gdp_grammar.specs.Owners.{LineKind, Kinds, owner, IsOwner, IsNested}
+use Rattle.gdp_grammar.specs.Nested.{StandsIn, Ascends, AreOwned}
+use Rattle.gdp_grammar.specs.Stacks.{owner, same_owner, owned, OwnedFound}
+use Rattle.gdp_grammar.specs.Owners.{LineKind, Kinds, IsOwner, IsNested}
 use Rattle.gdp_grammar.proofs.Cutting.{told}
 use Rattle.gdp_grammar.proofs.Owned.{owner_found, one_owner}
 use Rattle.gdp_grammar.proofs.Owning.{same_self, owned_other, owned_more}

@@ -6,8 +6,9 @@ use Rattle.std.proofs.lemmas.List.{append-nil}
 use Rattle.lp_rows.specs.Rows.{RowValue}
 use Rattle.block_tree.specs.Tree.{BlockTree, block, Disjunctions, no_disjunctions, disjunction, Disjuncts, no_disjuncts, disjunct}
 use Rattle.block_tree.specs.View.{DisjunctTree, DisjunctionTree, disjuncts, disjunctions}
-use Rattle.gdp_grammar.specs.Nested.{same_owner, owned_line, owned, Owns, row_marks, disjunction_marks, disjunct_marks, IsBlockOf, AreDisjunctionsOf, AreDisjunctsOf}
-use Rattle.gdp_grammar.specs.Owners.{LineKind, RowLine, DisjunctionLine, DisjunctLine, EndLine, OtherLine, Kinds, is_row, is_disjunction, is_disjunct, open_after, open_before, first_of, owner}
+use Rattle.gdp_grammar.specs.Nested.{row_marks, disjunction_marks, disjunct_marks}
+use Rattle.gdp_grammar.specs.Stacks.{open_after, open_before, first_of, owner, same_owner, owned_line, owned}
+use Rattle.gdp_grammar.specs.Owners.{LineKind, RowLine, DisjunctionLine, DisjunctLine, EndLine, OtherLine, Kinds, is_row, is_disjunction, is_disjunct}
 
 and_left : (a b : Bool) → a ≡ false → (a && b) ≡ false
 and_left a b e = ap (λ x. x && b) e
@@ -41,9 +42,15 @@ pub owned_more : (kinds : Kinds) (test : LineKind → Bool) (o : Option ℕ) (n 
 unfolding owned
 owned_more kinds test o n e = ap (λ l. owned kinds test o n ++ l) (cond-true (test (kinds n) && same_owner o (owner kinds n)) (n ∷ []) [] e)
 
+-- before line n this owner has these rows, disjunctions and disjuncts
+pub record Has (kinds : Kinds) (n : ℕ) (o : Option ℕ) (rows disjunctions disjuncts : List ℕ) : Type 0 where
+  pub rows_are : owned kinds is_row o n ≡ rows
+  pub disjunctions_are : owned kinds is_disjunction o n ≡ disjunctions
+  pub disjuncts_are : owned kinds is_disjunct o n ≡ disjuncts
+
 -- the owner has after line n what it had before
 abbrev pub Keeps : Kinds → ℕ → Option ℕ → Type 0
-Keeps kinds n o = (rows disjunctions disjuncts : List ℕ) → Owns kinds n o rows disjunctions disjuncts → Owns kinds (suc n) o rows disjunctions disjuncts
+Keeps kinds n o = (rows disjunctions disjuncts : List ℕ) → Has kinds n o rows disjunctions disjuncts → Has kinds (suc n) o rows disjunctions disjuncts
 
 -- by a line that is neither a row nor opens, each owner keeps what it has
 pub keep_kind : (kinds : Kinds) (n : ℕ) (o : Option ℕ) → is_row (kinds n) ≡ false → is_disjunction (kinds n) ≡ false → is_disjunct (kinds n) ≡ false → Keeps kinds n o
@@ -62,21 +69,21 @@ keep_owner kinds n o e rows ds js has = record {
 }
 
 -- a row, a disjunction and a disjunct come to their owner
-pub adds_row : (kinds : Kinds) (n : ℕ) (o : Option ℕ) (rows ds js : List ℕ) → kinds n ≡ RowLine → same_owner o (owner kinds n) ≡ true → Owns kinds n o rows ds js → Owns kinds (suc n) o (rows ++ n ∷ []) ds js
+pub adds_row : (kinds : Kinds) (n : ℕ) (o : Option ℕ) (rows ds js : List ℕ) → kinds n ≡ RowLine → same_owner o (owner kinds n) ≡ true → Has kinds n o rows ds js → Has kinds (suc n) o (rows ++ n ∷ []) ds js
 adds_row kinds n o rows ds js is e has = record {
   rows_are = owned_more kinds is_row o n (and_both (is_row (kinds n)) (same_owner o (owner kinds n)) (ap is_row is) e) ∙ ap (λ l. l ++ n ∷ []) has.rows_are;
   disjunctions_are = owned_other kinds is_disjunction o n (and_left (is_disjunction (kinds n)) (same_owner o (owner kinds n)) (ap is_disjunction is)) ∙ has.disjunctions_are;
   disjuncts_are = owned_other kinds is_disjunct o n (and_left (is_disjunct (kinds n)) (same_owner o (owner kinds n)) (ap is_disjunct is)) ∙ has.disjuncts_are;
 }
 
-pub adds_disjunction : (kinds : Kinds) (n : ℕ) (o : Option ℕ) (rows ds js : List ℕ) → kinds n ≡ DisjunctionLine → same_owner o (owner kinds n) ≡ true → Owns kinds n o rows ds js → Owns kinds (suc n) o rows (ds ++ n ∷ []) js
+pub adds_disjunction : (kinds : Kinds) (n : ℕ) (o : Option ℕ) (rows ds js : List ℕ) → kinds n ≡ DisjunctionLine → same_owner o (owner kinds n) ≡ true → Has kinds n o rows ds js → Has kinds (suc n) o rows (ds ++ n ∷ []) js
 adds_disjunction kinds n o rows ds js is e has = record {
   rows_are = owned_other kinds is_row o n (and_left (is_row (kinds n)) (same_owner o (owner kinds n)) (ap is_row is)) ∙ has.rows_are;
   disjunctions_are = owned_more kinds is_disjunction o n (and_both (is_disjunction (kinds n)) (same_owner o (owner kinds n)) (ap is_disjunction is) e) ∙ ap (λ l. l ++ n ∷ []) has.disjunctions_are;
   disjuncts_are = owned_other kinds is_disjunct o n (and_left (is_disjunct (kinds n)) (same_owner o (owner kinds n)) (ap is_disjunct is)) ∙ has.disjuncts_are;
 }
 
-pub adds_disjunct : (kinds : Kinds) (n : ℕ) (o : Option ℕ) (rows ds js : List ℕ) → kinds n ≡ DisjunctLine → same_owner o (owner kinds n) ≡ true → Owns kinds n o rows ds js → Owns kinds (suc n) o rows ds (js ++ n ∷ [])
+pub adds_disjunct : (kinds : Kinds) (n : ℕ) (o : Option ℕ) (rows ds js : List ℕ) → kinds n ≡ DisjunctLine → same_owner o (owner kinds n) ≡ true → Has kinds n o rows ds js → Has kinds (suc n) o rows ds (js ++ n ∷ [])
 adds_disjunct kinds n o rows ds js is e has = record {
   rows_are = owned_other kinds is_row o n (and_left (is_row (kinds n)) (same_owner o (owner kinds n)) (ap is_row is)) ∙ has.rows_are;
   disjunctions_are = owned_other kinds is_disjunction o n (and_left (is_disjunction (kinds n)) (same_owner o (owner kinds n)) (ap is_disjunction is)) ∙ has.disjunctions_are;
@@ -117,7 +124,7 @@ fresh kinds test j (suc n) within =
     above [] d = refl
     above (k ∷ ks) d = other_above j k (omega (arith, d.0, within))
 
-pub new_owner : (kinds : Kinds) (n : ℕ) → Owns kinds (suc n) (Some n) [] [] []
+pub new_owner : (kinds : Kinds) (n : ℕ) → Has kinds (suc n) (Some n) [] [] []
 new_owner kinds n = record {
   rows_are = fresh kinds is_row n (suc n) (omega arith);
   disjunctions_are = fresh kinds is_disjunction n (suc n) (omega arith);
@@ -165,11 +172,11 @@ gone_now kinds n j below was is =
 -- A tree that is closed before line n: what it holds is what its lines own.
 abbrev mutual
   pub BlockStands : Kinds → ℕ → Option ℕ → BlockTree → Type 0
-  BlockStands kinds n o (block items ds) = Owns kinds n o (row_marks items.rows) (disjunction_marks ds) [] × DisjunctionsStand kinds n ds
+  BlockStands kinds n o (block items ds) = Has kinds n o (row_marks items.rows) (disjunction_marks ds) [] × DisjunctionsStand kinds n ds
 
   pub DisjunctionsStand : Kinds → ℕ → Disjunctions → Type 0
   DisjunctionsStand kinds n no_disjunctions = Unit {0}
-  DisjunctionsStand kinds n (disjunction head js ds) = Gone kinds n head.mark × Owns kinds n (Some head.mark) [] [] (disjunct_marks js) × DisjunctsStand kinds n js × DisjunctionsStand kinds n ds
+  DisjunctionsStand kinds n (disjunction head js ds) = Gone kinds n head.mark × Has kinds n (Some head.mark) [] [] (disjunct_marks js) × DisjunctsStand kinds n js × DisjunctionsStand kinds n ds
 
   pub DisjunctsStand : Kinds → ℕ → Disjuncts → Type 0
   DisjunctsStand kinds n no_disjuncts = Unit {0}
@@ -190,22 +197,9 @@ mutual
   disjuncts_later kinds n (disjunct head b js) s =
       (gone_later kinds n head.mark s.0, block_later kinds n (Some head.mark) b (gone_keeps kinds n head.mark s.0) s.1, disjuncts_later kinds n js s.2)
 
--- what stands so is nested so
-mutual
-  pub block_nested : (kinds : Kinds) (n : ℕ) (o : Option ℕ) (b : BlockTree) → BlockStands kinds n o b → IsBlockOf kinds n o b
-  block_nested kinds n o (block items ds) s = (s.0, disjunctions_nested kinds n ds s.1)
-
-  pub disjunctions_nested : (kinds : Kinds) (n : ℕ) (ds : Disjunctions) → DisjunctionsStand kinds n ds → AreDisjunctionsOf kinds n ds
-  disjunctions_nested kinds n no_disjunctions s = tt
-  disjunctions_nested kinds n (disjunction head js ds) s = (s.1, disjuncts_nested kinds n js s.2, disjunctions_nested kinds n ds s.3)
-
-  pub disjuncts_nested : (kinds : Kinds) (n : ℕ) (js : Disjuncts) → DisjunctsStand kinds n js → AreDisjunctsOf kinds n js
-  disjuncts_nested kinds n no_disjuncts s = tt
-  disjuncts_nested kinds n (disjunct head b js) s = (block_nested kinds n (Some head.mark) b s.1, disjuncts_nested kinds n js s.2)
-
 -- one more at the end
 pub disjunctions_push : (kinds : Kinds) (n : ℕ) (ds : List DisjunctionTree) (d : DisjunctionTree) → DisjunctionsStand kinds n (disjunctions ds)
-    → Gone kinds n d.0.mark → Owns kinds n (Some d.0.mark) [] [] (disjunct_marks d.1) → DisjunctsStand kinds n d.1 → DisjunctionsStand kinds n (disjunctions (ds ++ d ∷ []))
+    → Gone kinds n d.0.mark → Has kinds n (Some d.0.mark) [] [] (disjunct_marks d.1) → DisjunctsStand kinds n d.1 → DisjunctionsStand kinds n (disjunctions (ds ++ d ∷ []))
 disjunctions_push kinds n [] d s g has js = (g, has, js, tt)
 disjunctions_push kinds n (x ∷ ds) d s g has js = (s.0, s.1, s.2, disjunctions_push kinds n ds d s.3 g has js)
 

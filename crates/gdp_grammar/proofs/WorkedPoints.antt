@@ -4,8 +4,8 @@ use Rattle.block_tree.specs.Names.{reserved_words}
 use Rattle.gdp_grammar.specs.declared.cause.ReadCause.TheVariants as cause
 use Rattle.gdp_grammar.specs.Forms.{signed_of, low_after, high_of, summand_of, summands_of, sum_of, constant_of, var_of, boolean_of, number_goal_of, terms_goal_of, row_of, disjunction_of, disjunct_of, end_of}
 use Rattle.gdp_grammar.specs.LineGrammars.{given_by}
-use Rattle.gdp_grammar.specs.Nested.{owned}
-use Rattle.gdp_grammar.specs.Owners.{kinds_of, is_row, is_disjunct, open_before, owner}
+use Rattle.gdp_grammar.specs.Stacks.{open_before, owner, owned}
+use Rattle.gdp_grammar.specs.Owners.{kinds_of, is_row, is_disjunct}
 use Rattle.gdp_grammar.specs.PointForms.{over_of, val_of, on_of}
 use Rattle.gdp_grammar.specs.PointReading.{with_over, with_val, with_on, with_end, with_point_line, point_after}
 use Rattle.gdp_grammar.specs.Points.{point_grammar}

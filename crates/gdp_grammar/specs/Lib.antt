@@ -24,3 +24,4 @@ pub mod Words
 pub mod Worked
 pub mod PointDeclaring
 pub mod WorkedPoints
+pub mod Stacks

@@ -1,26 +1,11 @@
 -- How the tree of a model is nested: as the lines of its text are.
-use Rattle.std.specs.Prelude.{◌≡◌, ◌<◌, ◌⊎◌, ℕ, zero, suc, ◌+◌, Bool, true, false, ◌&&◌, ◌==◌, List, [], ◌∷◌, ◌++◌, map, length, Option, None, Some, if◌then◌else◌}
+use Rattle.std.specs.Prelude.{◌≡◌, ◌<◌, ◌⊎◌, ℕ, ◌+◌, Bool, true, List, [], ◌∷◌, map, length, Option, None, Some}
 use Rattle.lp_rows.specs.Rows.{RowValue}
 use Rattle.block_tree.specs.Tree.{BlockTree, block, Disjunctions, no_disjunctions, disjunction, Disjuncts, no_disjuncts, disjunct}
 use Rattle.block_tree.specs.Values.{ModelTree}
 use Rattle.gdp_grammar.specs.Lines.{lines_of}
-use Rattle.gdp_grammar.specs.Owners.{LineKind, Kinds, kinds_of, is_row, is_disjunction, is_disjunct, owner, IsOwner, IsNested}
+use Rattle.gdp_grammar.specs.Owners.{LineKind, Kinds, kinds_of, is_row, is_disjunction, is_disjunct, IsOwner, IsNested}
 use Rattle.gdp_grammar.specs.Spelling.{Spells}
-
-abbrev pub same_owner : Option ℕ → Option ℕ → Bool
-same_owner None None = true
-same_owner None (Some k) = false
-same_owner (Some j) None = false
-same_owner (Some j) (Some k) = j == k
-
--- the line if it passes the test and has this owner
-abbrev pub owned_line : Kinds → (LineKind → Bool) → Option ℕ → ℕ → List ℕ
-owned_line kinds test o n = if test (kinds n) && same_owner o (owner kinds n) then n ∷ [] else []
-
--- the lines before line n that pass the test and have this owner, in order
-unfoldable pub owned : Kinds → (LineKind → Bool) → Option ℕ → ℕ → List ℕ
-owned kinds test o zero = []
-owned kinds test o (suc n) = owned kinds test o n ++ owned_line kinds test o n
 
 -- the number stands in the list
 abbrev pub StandsIn : ℕ → List ℕ → Type 0
@@ -38,15 +23,11 @@ pub record AreOwned (kinds : Kinds) (test : LineKind → Bool) (o : Option ℕ) 
   pub each_owned : (k : ℕ) → StandsIn k lines → (k < n) × (test (kinds k) ≡ true) × IsOwner kinds k o
   pub each_there : (k : ℕ) → k < n → test (kinds k) ≡ true → IsOwner kinds k o → StandsIn k lines
 
--- the lines that are found to be owned are those
-abbrev pub OwnedFound : Type 0
-OwnedFound = (kinds : Kinds) (test : LineKind → Bool) (o : Option ℕ) (n : ℕ) → IsNested kinds n → AreOwned kinds test o n (owned kinds test o n)
-
--- before line n this owner has these rows, disjunctions and disjuncts
+-- these are the rows, the disjunctions and the disjuncts that stand before line n and have this owner
 pub record Owns (kinds : Kinds) (n : ℕ) (o : Option ℕ) (rows disjunctions disjuncts : List ℕ) : Type 0 where
-  pub rows_are : owned kinds is_row o n ≡ rows
-  pub disjunctions_are : owned kinds is_disjunction o n ≡ disjunctions
-  pub disjuncts_are : owned kinds is_disjunct o n ≡ disjuncts
+  pub rows_are : AreOwned kinds is_row o n rows
+  pub disjunctions_are : AreOwned kinds is_disjunction o n disjunctions
+  pub disjuncts_are : AreOwned kinds is_disjunct o n disjuncts
 
 -- the marks of rows, of disjunctions and of disjuncts
 abbrev pub row_marks : List (RowValue × ℕ) → List ℕ

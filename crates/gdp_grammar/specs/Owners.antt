@@ -1,5 +1,5 @@
 -- Which line a line belongs to, by the lines that open and end.
-use Rattle.std.specs.Prelude.{◌≡◌, ℕ, zero, suc, ◌-◌, ◌<◌, Bool, true, false, ◌&&◌, ◌==◌, List, [], ◌∷◌, ◌++◌, drop, get_or, Option, None, Some, Result, Ok, if◌then◌else◌}
+use Rattle.std.specs.Prelude.{◌≡◌, ℕ, zero, suc, ◌-◌, ◌<◌, Bool, true, false, List, [], get_or, Option, None, Some, Result, Ok, if◌then◌else◌}
 use Rattle.gdp_grammar.specs.declared.cause.ReadCause.{ReadCause}
 use Rattle.gdp_grammar.specs.Declaring.{form_on}
 use Rattle.gdp_grammar.specs.Forms as form
@@ -81,32 +81,6 @@ IsOwner kinds n (Some j) = (j < n) × (opens (kinds j) ≡ true) × (IsClosed ki
 -- each `end` line before line n has something to close
 abbrev pub IsNested : Kinds → ℕ → Type 0
 IsNested kinds n = (k : ℕ) → k < n → is_end (kinds k) ≡ true → 0 < depth kinds k
-
--- what is open after a line, from the inside out
-abbrev pub open_after : LineKind → ℕ → List ℕ → List ℕ
-open_after RowLine n lines = lines
-open_after DisjunctionLine n lines = n ∷ lines
-open_after DisjunctLine n lines = n ∷ lines
-open_after EndLine n lines = drop 1 lines
-open_after OtherLine n lines = lines
-
--- the lines before line n that open what is open there, from the inside out
-unfoldable pub open_before : Kinds → ℕ → List ℕ
-open_before kinds zero = []
-open_before kinds (suc n) = open_after (kinds n) n (open_before kinds n)
-
--- the first of a list, if there is one
-abbrev pub first_of : List ℕ → Option ℕ
-first_of [] = None
-first_of (j ∷ js) = Some j
-
--- the owner of line n
-abbrev pub owner : Kinds → ℕ → Option ℕ
-owner kinds n = first_of (open_before kinds n)
-
--- the owner that is found is the one
-abbrev pub OwnerFound : Type 0
-OwnerFound = (kinds : Kinds) (n : ℕ) → IsNested kinds n → IsOwner kinds n (owner kinds n)
 
 -- a line has one owner
 abbrev pub OneOwner : Type 0

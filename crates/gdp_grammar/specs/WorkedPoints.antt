@@ -1,8 +1,8 @@
 -- Worked point texts, and the owners of the lines of a worked model text.
 use Rattle.std.specs.Prelude.{◌≡◌, ℕ, pos, negsuc, true, false, List, [], ◌∷◌, ◌++◌, None, Some, codes}
 use Rattle.gdp_grammar.specs.declared.cause.ReadCause.TheVariants as cause
-use Rattle.gdp_grammar.specs.Nested.{owned}
-use Rattle.gdp_grammar.specs.Owners.{kinds_of, is_row, is_disjunct, owner}
+use Rattle.gdp_grammar.specs.Stacks.{owner, owned}
+use Rattle.gdp_grammar.specs.Owners.{kinds_of, is_row, is_disjunct}
 use Rattle.gdp_grammar.specs.Points.{SpellsPoint, IsFirstBadOfPoint}
 use Rattle.gdp_grammar.specs.Worked as worked
 

@@ -1,7 +1,8 @@
 //! The laws of nesting, each the contract of a function with an empty body.
 
-ghost use Rattle.gdp_grammar.specs.Nested.{NestedAsSpelled, OwnedFound};
-ghost use Rattle.gdp_grammar.specs.Owners.{OwnerFound, OneOwner};
+ghost use Rattle.gdp_grammar.specs.Nested.{NestedAsSpelled};
+ghost use Rattle.gdp_grammar.specs.Owners.{OneOwner};
+ghost use Rattle.gdp_grammar.specs.Stacks.{OwnerFound, OwnedFound};
 ghost use Rattle.gdp_grammar.specs.WorkedPoints.{WorkedOwners};
 
 /// The owner of a line is the last line before it that opens what isn't closed before it.
