@@ -90,14 +90,11 @@ fn declare(
 // A builder after these calls, whose marks are the lines that they would have below a header.
 fn after(alloc: Global, steps: &[Step]) -> Result<ModelBuilder, Fail> {
     let mut builder = ModelBuilder::new(alloc);
-    let mut mark = 1;
+    let mut mark: u32 = 1;
     for step in steps {
-        mark += 1;
+        mark = mark.saturating_add(1);
         if call(alloc, &mut builder, *step, mark).is_err() {
             return Err("a call is refused")?;
-        }
-        if mark > 1_000 {
-            return Err("too many calls")?;
         }
     }
     Ok(builder)
