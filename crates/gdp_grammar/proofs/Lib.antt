@@ -22,3 +22,4 @@ pub mod OwnedLines
 pub mod PointGrown
 pub mod WorkedPoints
 pub mod NestedTrees
+pub mod PointNames

@@ -23,18 +23,18 @@ use Rattle.gdp_grammar.specs.Words.{words_of, are_words}
 use Rattle.gdp_grammar.proofs.Sums.{bind_ok}
 
 -- A line that says this, or these lines, lead from one to the other: what they add, and what they keep.
-record Adds (m : ModelTree) (t next : PointTaken) (Says : PointForm → Type 0) : Type 0 where
-  as_long : length next.numbers ≡ length t.numbers
-  as_many : length next.truths ≡ length t.truths
-  over_kept : (d : ℤ) → t.over ≡ Some d → next.over ≡ Some d
-  over_from : (d : ℤ) → next.over ≡ Some d → (t.over ≡ Some d) ⊎ ((digits : List ℕ) × Says (Over digits) × (over_value digits ≡ Some d))
-  number_kept : (id : ℕ) (v : ℤ) → get_or t.numbers id None ≡ Some v → get_or next.numbers id None ≡ Some v
-  number_said : (name : List ℕ) (number : Integer) → Says (Val name number) → (id : ℕ) × (v : ℤ) × (variable_at m name ≡ Some id) × (integer_value number ≡ Some v) × (get_or next.numbers id None ≡ Some v)
-  number_from : (id : ℕ) (v : ℤ) → get_or next.numbers id None ≡ Some v
+pub record Adds (m : ModelTree) (t next : PointTaken) (Says : PointForm → Type 0) : Type 0 where
+  pub as_long : length next.numbers ≡ length t.numbers
+  pub as_many : length next.truths ≡ length t.truths
+  pub over_kept : (d : ℤ) → t.over ≡ Some d → next.over ≡ Some d
+  pub over_from : (d : ℤ) → next.over ≡ Some d → (t.over ≡ Some d) ⊎ ((digits : List ℕ) × Says (Over digits) × (over_value digits ≡ Some d))
+  pub number_kept : (id : ℕ) (v : ℤ) → get_or t.numbers id None ≡ Some v → get_or next.numbers id None ≡ Some v
+  pub number_said : (name : List ℕ) (number : Integer) → Says (Val name number) → (id : ℕ) × (v : ℤ) × (variable_at m name ≡ Some id) × (integer_value number ≡ Some v) × (get_or next.numbers id None ≡ Some v)
+  pub number_from : (id : ℕ) (v : ℤ) → get_or next.numbers id None ≡ Some v
       → (get_or t.numbers id None ≡ Some v) ⊎ ((name : List ℕ) × (number : Integer) × Says (Val name number) × (variable_at m name ≡ Some id) × (integer_value number ≡ Some v))
-  truth_kept : (k : ℕ) → get_or t.truths k false ≡ true → get_or next.truths k false ≡ true
-  truth_said : (name : List ℕ) → Says (On name) → (k : ℕ) × (boolean_at m name ≡ Some k) × (get_or next.truths k false ≡ true)
-  truth_from : (k : ℕ) → get_or next.truths k false ≡ true → (get_or t.truths k false ≡ true) ⊎ ((name : List ℕ) × Says (On name) × (boolean_at m name ≡ Some k))
+  pub truth_kept : (k : ℕ) → get_or t.truths k false ≡ true → get_or next.truths k false ≡ true
+  pub truth_said : (name : List ℕ) → Says (On name) → (k : ℕ) × (boolean_at m name ≡ Some k) × (get_or next.truths k false ≡ true)
+  pub truth_from : (k : ℕ) → get_or next.truths k false ≡ true → (get_or t.truths k false ≡ true) ⊎ ((name : List ℕ) × Says (On name) × (boolean_at m name ≡ Some k))
 
 -- what says neither a number nor a truth
 adds_none : (m : ModelTree) (t next : PointTaken) (Says : PointForm → Type 0) → next.over ≡ t.over → next.numbers ≡ t.numbers → next.truths ≡ t.truths
@@ -56,7 +56,7 @@ adds_none m t next Says over numbers truths no_val no_on = record {
 abbrev SaysForm : Result PointForm ReadCause → PointForm → Type 0
 SaysForm read form = read ≡ Ok form
 
-passed : (b : Bool) (cause : ReadCause) (u : Unit {0}) → refuse_if b cause ≡ Ok u → b ≡ false
+pub passed : (b : Bool) (cause : ReadCause) (u : Unit {0}) → refuse_if b cause ≡ Ok u → b ≡ false
 passed true c u e = absurd (cc e)
 passed false c u e = refl
 
@@ -225,7 +225,7 @@ form_adds m t next (On name) sized flagged e = on_adds m t next name flagged e
 form_adds m t next End sized flagged e = end_adds m t next e
 
 -- the header has no form
-header_form : (w : List ℕ) (ws : List (List ℕ)) → are_words (w ∷ ws) (codes "gdp-point") (codes "1") ≡ true → point_form_of (w ∷ ws) ≡ Err cause.Form
+pub header_form : (w : List ℕ) (ws : List (List ℕ)) → are_words (w ∷ ws) (codes "gdp-point") (codes "1") ≡ true → point_form_of (w ∷ ws) ≡ Err cause.Form
 header_form [] [] e = absurd (cc e)
 header_form [] (v ∷ []) e = absurd (cc e)
 header_form [] (v ∷ u ∷ vs) e = absurd (cc e)
@@ -305,7 +305,7 @@ both_add m t next after l ls one more = record {
   ];
 }
 
-lines_add : (m : ModelTree) (t after : PointTaken) (ls : List (List ℕ)) → length t.numbers ≡ length m.vars → length t.truths ≡ length m.booleans → LeadsBy (point_grammar m) t ls after → Adds m t after (HasLine ls)
+pub lines_add : (m : ModelTree) (t after : PointTaken) (ls : List (List ℕ)) → length t.numbers ≡ length m.vars → length t.truths ≡ length m.booleans → LeadsBy (point_grammar m) t ls after → Adds m t after (HasLine ls)
 lines_add m t after [] sized flagged e = adds_same m t after (HasLine []) e (λ name number says. says) (λ name says. says)
 lines_add m t after (l ∷ ls) sized flagged lead =
     let one = line_adds m t lead.0 l sized flagged lead.1 in

@@ -1,5 +1,5 @@
 -- What the lines of a point text say of the point, each for itself.
-use Rattle.std.specs.Prelude.{◌≡◌, ◌<◌, ◌⊎◌, ℕ, pos, Bool, true, false, List, [], ◌∷◌, length, get_or, Some, Result, Ok}
+use Rattle.std.specs.Prelude.{◌≡◌, ◌<◌, ◌⊎◌, ℕ, pos, Bool, true, false, List, [], ◌∷◌, ◌++◌, length, get_or, Some, Result, Ok}
 use Rattle.lp_rows.specs.Points.{PointValue}
 use Rattle.block_tree.specs.Values.{ModelTree}
 use Rattle.gdp_grammar.specs.declared.cause.ReadCause.{ReadCause}
@@ -33,3 +33,16 @@ pub record IsLaidOutPoint (m : ModelTree) (lines : List (List ℕ)) (point : Poi
 -- a point that a text spells is laid out so by the text's lines
 abbrev pub LaidOutPoint : Type 0
 LaidOutPoint = (m : ModelTree) (text : List ℕ) (point : PointValue) (truths : List Bool) → SpellsPoint m text point truths → IsLaidOutPoint m (lines_of text) point truths
+
+-- the line gives this name a number or makes it true
+abbrev pub IsLineOn : List ℕ → List ℕ → Type 0
+IsLineOn line name = ((number : Integer) × (point_form_on line ≡ Ok (Val name number))) ⊎ (point_form_on line ≡ Ok (On name))
+
+-- such a line stands among these
+abbrev pub HasLineOn : List (List ℕ) → List ℕ → Type 0
+HasLineOn lines name = ((number : Integer) × HasLine lines (Val name number)) ⊎ HasLine lines (On name)
+
+-- in a text that spells a point no line on a name stands after another
+abbrev pub OneLineEach : Type 0
+OneLineEach = (m : ModelTree) (text : List ℕ) (point : PointValue) (truths : List Bool) (before after : List (List ℕ)) (line name : List ℕ) → SpellsPoint m text point truths
+    → lines_of text ≡ before ++ line ∷ after → IsLineOn line name → ¬ HasLineOn before name

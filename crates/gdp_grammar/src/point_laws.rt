@@ -1,6 +1,6 @@
 //! The laws of point texts, each the contract of a function with an empty body.
 
-ghost use Rattle.gdp_grammar.specs.PointDeclaring.{LaidOutPoint};
+ghost use Rattle.gdp_grammar.specs.PointDeclaring.{LaidOutPoint, OneLineEach};
 ghost use Rattle.gdp_grammar.specs.PointLaws.{OnePoint, PointOrBad, NeverPointAndBad, OneFirstBadOfPoint};
 ghost use Rattle.gdp_grammar.specs.WorkedPoints.{WorkedPoints};
 
@@ -27,6 +27,11 @@ pub fn one_first_bad_of_point()
 /// A point that a text spells is what the lines of the text say, each for itself.
 pub fn laid_out_point()
     ensures { LaidOutPoint }
+{}
+
+/// In a text that spells a point each name has at most one line.
+pub fn one_line_each()
+    ensures { OneLineEach }
 {}
 
 /// A text spells its point, and three texts go wrong where they are to.
