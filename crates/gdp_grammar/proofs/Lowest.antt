@@ -67,7 +67,7 @@ greatest_is_gcd a b some =
     subst (λ n. IsGcd a b n) same whole
 
 -- a number over one of its divisors, times that divisor
-signed_times : (number : ℤ) (d : ℕ) → 0 < d → d ∣ unsigned_abs number → signed_as number (unsigned_abs number / d) *ℤ pos d ≡ number
+pub signed_times : (number : ℤ) (d : ℕ) → 0 < d → d ∣ unsigned_abs number → signed_as number (unsigned_abs number / d) *ℤ pos d ≡ number
 signed_times (pos n) d some p = ap pos (div-mul_cancel d p)
 signed_times (negsuc n) d some p = neg_mul (pos (suc n / d)) (pos d) ∙ ap (λ x. neg_ℤ (pos x)) (div-mul_cancel d p)
 
