@@ -11,10 +11,12 @@ pub mod Owned
 pub mod Pieces
 pub mod PointOnce
 pub mod Printed
+pub mod Rebuilt
 pub mod Scales
 pub mod Sums
 pub mod Threaded
 pub mod Twice
+pub mod Unmarked
 pub mod Worked
 pub mod Owning
 pub mod Holding

@@ -1,4 +1,5 @@
 pub mod Canonical
+pub mod CanonicalLaws
 pub mod Causes
 pub mod Classes
 pub mod Declaring

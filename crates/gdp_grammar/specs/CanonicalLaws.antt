@@ -1,0 +1,70 @@
+-- Laws of the canonical text. Each is the contract of a function of `canonical_laws`.
+use Rattle.std.specs.Prelude.{◌≡◌, ℕ, Bool, true, ◌&&◌, List, map, is_none}
+use Rattle.std.specs.List.{list_all}
+use Rattle.lp_rows.specs.Rows.{RowValue, row_refusal}
+use Rattle.block_tree.specs.Sound.{IsSound}
+use Rattle.block_tree.specs.Tree.{BlockTree, block, Disjunctions, no_disjunctions, disjunction, Disjuncts, no_disjuncts, disjunct}
+use Rattle.block_tree.specs.Values.{GoalValue, ModelTree}
+use Rattle.block_tree.specs.Variables.{VarValue, BooleanValue}
+use Rattle.gdp_grammar.specs.Canonical.{canonical_text}
+use Rattle.gdp_grammar.specs.Spelling.{Spells}
+
+-- rows without their marks
+abbrev pub unmarked_rows : List (RowValue × ℕ) → List (RowValue × ℕ)
+unmarked_rows rows = map (λ r. (r.0, 0)) rows
+
+-- a block without marks, and so what is below it
+abbrev mutual
+  pub unmarked_block : BlockTree → BlockTree
+  unmarked_block (block items ds) = block (record { rows = unmarked_rows items.rows }) (unmarked_disjunctions ds)
+
+  pub unmarked_disjunctions : Disjunctions → Disjunctions
+  unmarked_disjunctions no_disjunctions = no_disjunctions
+  unmarked_disjunctions (disjunction head js ds) =
+      disjunction (record { mode = head.mode; mark = 0 }) (unmarked_disjuncts js) (unmarked_disjunctions ds)
+
+  pub unmarked_disjuncts : Disjuncts → Disjuncts
+  unmarked_disjuncts no_disjuncts = no_disjuncts
+  unmarked_disjuncts (disjunct head b js) = disjunct (record { indicator = head.indicator; mark = 0 }) (unmarked_block b) (unmarked_disjuncts js)
+
+-- variables, Booleans and a goal without their marks
+abbrev pub unmarked_vars : List VarValue → List VarValue
+unmarked_vars vars = map (λ v. (v.0, v.1, v.2, 0)) vars
+
+abbrev pub unmarked_booleans : List BooleanValue → List BooleanValue
+unmarked_booleans booleans = map (λ b. (b.0, 0)) booleans
+
+abbrev pub unmarked_goal : GoalValue → GoalValue
+unmarked_goal goal = record { sense = goal.sense; terms = goal.terms; constant = goal.constant; scale = goal.scale; mark = 0 }
+
+-- a model without marks
+abbrev pub unmarked : ModelTree → ModelTree
+unmarked m = record { vars = unmarked_vars m.vars; booleans = unmarked_booleans m.booleans; goal = unmarked_goal m.goal; root = unmarked_block m.root }
+
+-- two models are the same but for their marks
+abbrev pub AreSame : ModelTree → ModelTree → Type 0
+AreSame m n = unmarked m ≡ unmarked n
+
+-- in a block and below it each row is one that is stored
+abbrev pub are_rows_stored : List (RowValue × ℕ) → Bool
+are_rows_stored rows = list_all (λ r. is_none (row_refusal r.0.terms r.0.right)) rows
+
+abbrev mutual
+  pub is_stored : BlockTree → Bool
+  is_stored (block items ds) = are_rows_stored items.rows && are_disjunctions_stored ds
+
+  pub are_disjunctions_stored : Disjunctions → Bool
+  are_disjunctions_stored no_disjunctions = true
+  are_disjunctions_stored (disjunction head js ds) = are_disjuncts_stored js && are_disjunctions_stored ds
+
+  pub are_disjuncts_stored : Disjuncts → Bool
+  are_disjuncts_stored no_disjuncts = true
+  are_disjuncts_stored (disjunct head b js) = is_stored b && are_disjuncts_stored js
+
+-- The canonical text of a model spells a model that is the same but for its marks.
+abbrev pub CanonicalSpells : Type 0
+CanonicalSpells = (m : ModelTree) → IsSound m → is_stored m.root ≡ true → (n : ModelTree) × Spells (canonical_text m) n × AreSame n m
+
+-- Models that are the same but for their marks have the same canonical text.
+abbrev pub CanonicalIgnoresMarks : Type 0
+CanonicalIgnoresMarks = (m n : ModelTree) → AreSame n m → canonical_text n ≡ canonical_text m
