@@ -99,17 +99,15 @@ value_again f fit =
     ∙ ap (λ x. Some x) (sym (lowest_only b n d f some reduced))
 
 -- the ends of a bound
-pub IsEndFit : Option fraction.Fraction → Type 0
+abbrev pub IsEndFit : Option fraction.Fraction → Type 0
 IsEndFit None = Unit {0}
 IsEndFit (Some f) = IsFit f
 
 pub end_short : (end : Option fraction.Fraction) → IsEndFit end → IsEndShort end
-unfolding IsEndFit
 end_short None fit = tt
 end_short (Some f) fit = fit_short f fit
 
 pub end_again : (end : Option fraction.Fraction) → IsEndFit end → end_of (end_for end) ≡ Ok end
-unfolding IsEndFit
 end_again None fit = refl
 end_again (Some f) fit = rw (value_again f fit) refl
 
@@ -171,12 +169,11 @@ position_is names id p h =
     ap (λ k. cond (nat_lt k (length names)) (Some k) None) e ∙ cond-true (nat_lt id (length names)) (Some id) None within
 
 -- terms of small numbers, on the first n variables
-pub AreTermsFit : ℕ → List (ℕ × fraction.Fraction) → Type 0
+abbrev pub AreTermsFit : ℕ → List (ℕ × fraction.Fraction) → Type 0
 AreTermsFit n [] = Unit {0}
 AreTermsFit n (t ∷ ts) = (t.0 < n) × IsFit t.1 × AreTermsFit n ts
 
 pub terms_read : (names : List (List ℕ)) (ts : List (ℕ × fraction.Fraction)) → are_names names ≡ true → AreTermsFit (length names) ts → AreTermsAgain names ts
-unfolding AreTermsFit
 terms_read names [] p a = tt
 terms_read names (t ∷ ts) p a = (record { short = fit_short t.1 a.1; name = name_within names t.0 p a.0 }, terms_read names ts p a.2)
 
@@ -187,7 +184,7 @@ some_ids (t ∷ ts) = Some t.0 ∷ some_ids ts
 
 named_again : (vars : List VarValue) (names : List (List ℕ)) (ts : List (ℕ × fraction.Fraction)) → map (λ (v : VarValue). v.0) vars ≡ names → are_names names ≡ true → AreTermsFit (length names) ts
     → named vars (summands_for names ts) ≡ some_ids ts
-unfolding some_ids AreTermsFit
+unfolding some_ids
 named_again vars names [] e p a = refl
 named_again vars names (t ∷ ts) e p a =
     ap (λ i. i ∷ named vars (summands_for names ts)) (ap (λ l. position (bytes_eq (name_in names t.0)) l) e ∙ position_is names t.0 p a.0)
@@ -221,14 +218,14 @@ numbered names (t ∷ ts) = (t.0, summand_for names t) ∷ numbered names ts
 
 known_again : (vars : List VarValue) (names : List (List ℕ)) (ts : List (ℕ × fraction.Fraction)) → map (λ (v : VarValue). v.0) vars ≡ names → are_names names ≡ true → AreTermsFit (length names) ts
     → known_terms vars (summands_for names ts) ≡ Ok (numbered names ts)
-unfolding numbered AreTermsFit
+unfolding numbered
 known_again vars names [] e p a = refl
 known_again vars names (t ∷ ts) e p a =
     let id : id_of vars (name_in names t.0) ≡ Some t.0 = ap (λ l. position (bytes_eq (name_in names t.0)) l) e ∙ position_is names t.0 p a.0 in
     rw (id, known_again vars names ts e p a.2) refl
 
 valued_again : (names : List (List ℕ)) (n : ℕ) (ts : List (ℕ × fraction.Fraction)) → AreTermsFit n ts → valued_terms (numbered names ts) ≡ Ok ts
-unfolding numbered AreTermsFit
+unfolding numbered
 valued_again names n [] a = refl
 valued_again names n (t ∷ ts) a = rw (value_again t.1 a.1, valued_again names n ts a.2) refl
 

@@ -14,15 +14,15 @@ pub mod Lowest
 pub mod Nested
 pub mod Numerals
 pub mod Owners
+pub mod PointDeclaring
 pub mod PointForms
 pub mod PointLaws
 pub mod PointReading
 pub mod Points
 pub mod Reading
 pub mod Spelling
+pub mod Stacks
 pub mod Tokens
 pub mod Words
 pub mod Worked
-pub mod PointDeclaring
 pub mod WorkedPoints
-pub mod Stacks
