@@ -7,6 +7,7 @@ pub mod FormsGiven
 pub mod Grown
 pub mod Holding
 pub mod LinesAgain
+pub mod LinesLead
 pub mod Lowest
 pub mod NestedTrees
 pub mod Nests
@@ -23,6 +24,7 @@ pub mod Rebuilt
 pub mod Scales
 pub mod Sums
 pub mod Threaded
+pub mod TreeLead
 pub mod Twice
 pub mod Unmarked
 pub mod Worked

@@ -115,7 +115,7 @@ end_again (Some f) fit = rw (value_again f fit) refl
 bytes_same : (a : List ℕ) → bytes_eq a a ≡ true
 bytes_same a = (bytes_eq-Decides a a).1 refl
 
-bytes_eq_swap : (a b : List ℕ) → bytes_eq a b ≡ bytes_eq b a
+pub bytes_eq_swap : (a b : List ℕ) → bytes_eq a b ≡ bytes_eq b a
 bytes_eq_swap a b = go (bytes_eq a b) (bytes_eq b a) refl refl
   where
     go : (x y : Bool) → bytes_eq a b ≡ x → bytes_eq b a ≡ y → x ≡ y
