@@ -21,6 +21,7 @@ pub mod PointNames
 pub mod PointOnce
 pub mod Printed
 pub mod Rebuilt
+pub mod Respelled
 pub mod Scales
 pub mod Sums
 pub mod Threaded

@@ -21,10 +21,10 @@ use Rattle.gdp_grammar.specs.Forms.{Row, Disjunction, Disjunct, End}
 use Rattle.gdp_grammar.specs.Lowest.{over}
 use Rattle.gdp_grammar.specs.Reading.{with_form, with_line}
 use Rattle.gdp_grammar.specs.Spelling.{Leads}
-use Rattle.gdp_grammar.proofs.Again.{both, and_true}
+use Rattle.gdp_grammar.proofs.Again.{both, and_true, is_printed, are_printed}
 use Rattle.gdp_grammar.proofs.FormsGiven.{AreWhole, CanAppend, row_given, row_whole, terms_fit, fit_over}
 use Rattle.gdp_grammar.proofs.LinesAgain.{row_form_again, disjunction_form_again, disjunct_form_again, end_form_again, summands_for, signed_for}
-use Rattle.gdp_grammar.proofs.LinesLead.{headed, line_lead, leads_then, leads_one, leads_to, row_printed, disjunction_printed, named_printed}
+use Rattle.gdp_grammar.proofs.LinesLead.{headed, line_lead, leads_then, leads_one, leads_to, row_printed, disjunction_printed, named_printed, words_appended}
 use Rattle.gdp_grammar.proofs.Rebuilt.{fit_short, name_within, terms_read, bytes_eq_swap}
 use Rattle.block_tree.proofs.Keeping.{has_append}
 use Rattle.std.specs.Str.{bytes_eq}
@@ -74,7 +74,7 @@ no_refusal r p = go (row_refusal r.terms r.right) p
 few_rows : (n : ℕ) → n < 1000 → nat_le 1000 n ≡ false
 few_rows n h = grind (arith, nat_tests)
 
-names_length : (vs : List VarValue) → length (map (λ (v : VarValue). v.0) vs) ≡ length vs
+pub names_length : (vs : List VarValue) → length (map (λ (v : VarValue). v.0) vs) ≡ length vs
 names_length [] = refl
 names_length (v ∷ vs) = omega (arith, names_length vs)
 
@@ -96,6 +96,22 @@ row_lead m vs g bs o os line r ctx ids stored few =
     (row_printed names (terms_over (pos 1) r.0.terms) r.0.rel (over (pos 1) r.0.right) read right)
     (row_form_again names (terms_over (pos 1) r.0.terms) r.0.rel (over (pos 1) r.0.right) read right)
     (row_given (in_block vs g bs o os) line names r.0 (record { vars = ctx.vars; differ = ctx.var_names_differ; place = refl; row = stored; ids = ids_named; few = few_rows (rows_so_far (in_block vs g bs o os)) few }))
+
+row_line_printed : (m : ModelTree) (vs : List VarValue) (r : RowValue × ℕ) → IsContext m vs → ids_below (length m.vars) r.0.terms ≡ true → row_refusal r.0.terms r.0.right ≡ None → list_all is_printed (row_line m r) ≡ true
+row_line_printed m vs r ctx ids stored =
+    let names : List (List ℕ) = var_names m in
+    let w = row_whole r.0 stored in
+    let ids_named : ids_below (length names) r.0.terms ≡ true = ap (λ n. ids_below n r.0.terms) (names_length m.vars) ∙ ids in
+    row_printed names (terms_over (pos 1) r.0.terms) r.0.rel (over (pos 1) r.0.right)
+    (terms_read names (terms_over (pos 1) r.0.terms) ctx.var_names_differ (terms_fit (length names) 1 r.0.terms w.some w.small w.stored ids_named))
+    (fit_short (over (pos 1) r.0.right) (fit_over 1 r.0.right w.some w.small w.number))
+
+rows_printed : (m : ModelTree) (vs : List VarValue) (rs : List (RowValue × ℕ)) → IsContext m vs → are_rows_below (length m.vars) rs ≡ true → are_rows_stored rs ≡ true → are_printed (map (row_line m) rs) ≡ true
+rows_printed m vs [] ctx ids stored = refl
+rows_printed m vs (r ∷ rs) ctx ids stored =
+    let i = both (ids_below (length m.vars) r.0.terms) (are_rows_below (length m.vars) rs) ids in
+    let s = both (is_none (row_refusal r.0.terms r.0.right)) (are_rows_stored rs) stored in
+    and_true (list_all is_printed (row_line m r)) (are_printed (map (row_line m) rs)) (row_line_printed m vs r ctx i.0 (no_refusal r.0 s.0)) (rows_printed m vs rs ctx i.1 s.1)
 
 pub rows_lead : (m : ModelTree) (vs : List VarValue) (g : Option GoalValue) (bs : List BooleanValue) (o : OpenBlock) (os : List (OpenBlock × OpenDisjunction)) (line : ℕ) (rs : List (RowValue × ℕ)) → IsContext m vs
     → are_rows_below (length m.vars) rs ≡ true → are_rows_stored rs ≡ true → rows_so_far (in_block vs g bs o os) + length rs ≤ 1000
@@ -175,7 +191,7 @@ take_next names n h = by_suc names n h
         ap (λ k. take k (x ∷ xs)) e ∙ ap (λ l. x ∷ l) (by_suc xs n (omega (arith, h)))
 
 -- a name of the list is taken by none before it
-name_at : (n : List ℕ) (xs : List (List ℕ)) (ys : List (List ℕ)) → are_names (xs ++ n ∷ ys) ≡ true → has_name n xs ≡ false
+pub name_at : (n : List ℕ) (xs : List (List ℕ)) (ys : List (List ℕ)) → are_names (xs ++ n ∷ ys) ≡ true → has_name n xs ≡ false
 name_at n [] ys p = refl
 name_at n (x ∷ xs) ys p =
     let h = both (is_name x && not (has_name x (xs ++ n ∷ ys))) (are_names (xs ++ n ∷ ys)) p in
@@ -224,6 +240,7 @@ pub record DisjunctionsGiven (m : ModelTree) (vs : List VarValue) (g : Option Go
   pub closed : List DisjunctionTree
   pub leads : Leads line (headed (in_block vs g bs o os)) (disjunctions_lines m ds) (headed (in_block vs g (bs ++ more) (record o { closed = o.closed ++ closed }) os))
   pub same : unmarked_disjunctions (disjunctions closed) ≡ unmarked_disjunctions ds
+  pub printed : are_printed (disjunctions_lines m ds) ≡ true
   pub firsts : AreFirst m (bs ++ more) later
 
 pub record DisjunctsGiven (m : ModelTree) (vs : List VarValue) (g : Option GoalValue) (bs : List BooleanValue) (o : OpenBlock) (d : OpenDisjunction) (os : List (OpenBlock × OpenDisjunction)) (line : ℕ) (js : Disjuncts) (later : List DisjunctHead) : Type 0 where
@@ -231,6 +248,7 @@ pub record DisjunctsGiven (m : ModelTree) (vs : List VarValue) (g : Option GoalV
   pub closed : List DisjunctTree
   pub leads : Leads line (headed (in_disjunction vs g bs o d os)) (disjuncts_lines m js) (headed (in_disjunction vs g (bs ++ more) o (record d { closed = d.closed ++ closed }) os))
   pub same : unmarked_disjuncts (disjuncts closed) ≡ unmarked_disjuncts js
+  pub printed : are_printed (disjuncts_lines m js) ≡ true
   pub firsts : AreFirst m (bs ++ more) later
 
 pub record BlockGiven (m : ModelTree) (vs : List VarValue) (g : Option GoalValue) (bs : List BooleanValue) (o : OpenBlock) (os : List (OpenBlock × OpenDisjunction)) (line : ℕ) (b : BlockTree) (later : List DisjunctHead) : Type 0 where
@@ -239,6 +257,7 @@ pub record BlockGiven (m : ModelTree) (vs : List VarValue) (g : Option GoalValue
   pub closed : List DisjunctionTree
   pub leads : Leads line (headed (in_block vs g bs o os)) (block_lines m b) (headed (in_block vs g (bs ++ more) (record o { rows = o.rows ++ rows; closed = o.closed ++ closed }) os))
   pub same : unmarked_block (block (record { rows = rows }) (disjunctions closed)) ≡ unmarked_block b
+  pub printed : are_printed (block_lines m b) ≡ true
   pub firsts : AreFirst m (bs ++ more) later
 
 -- the lines that open and close
@@ -351,6 +370,9 @@ disjunctions_step m vs g bs o os line after head js ds later at filled r t =
       same =
           ap (λ l. disjunction (record { mode = head.mode; mark = 0 }) l (unmarked_disjunctions (disjunctions t.closed))) r.same
           ∙ ap (λ l. disjunction (record { mode = head.mode; mark = 0 }) (unmarked_disjuncts js) l) t.same;
+      printed =
+          and_true (list_all is_printed (disjunction_line head.mode)) (are_printed (disjuncts_lines m js ++ codes "end" ∷ disjunctions_lines m ds)) (disjunction_printed head.mode)
+          (words_appended (disjuncts_lines m js) (codes "end" ∷ disjunctions_lines m ds) r.printed t.printed);
       firsts = first_booleans m ((bs ++ r.more) ++ t.more) (bs ++ (r.more ++ t.more)) later (append_assoc bs r.more t.more) t.firsts;
     }
 
@@ -388,6 +410,9 @@ disjuncts_step m vs g bs o d os line after head b js later at next shallow is k 
           ap (λ n. disjunct (record { indicator = n; mark = 0 }) (unmarked_block (closed_block i)) (unmarked_disjuncts (disjuncts t.closed))) is
           ∙ ap (λ l. disjunct (record { indicator = head.indicator; mark = 0 }) l (unmarked_disjuncts (disjuncts t.closed))) k.same
           ∙ ap (λ l. disjunct (record { indicator = head.indicator; mark = 0 }) (unmarked_block b) l) t.same;
+      printed =
+          and_true (list_all is_printed (disjunct_line m head.indicator)) (are_printed (block_lines m b ++ codes "end" ∷ disjuncts_lines m js)) (named_printed (codes "disjunct") (name_in (boolean_names m) head.indicator) refl next.name_is)
+          (words_appended (block_lines m b) (codes "end" ∷ disjuncts_lines m js) k.printed t.printed);
       firsts = first_booleans m ((bs1 ++ k.more) ++ t.more) (bs ++ (x ∷ (k.more ++ t.more))) later grouped t.firsts;
     }
 
@@ -420,6 +445,7 @@ mutual
         closed = t.closed;
         leads = leads_then line (line + length items.rows) (map (row_line m) items.rows) (disjunctions_lines m ds) _ _ _ (omega (arith, lines_length m items.rows)) r t.leads;
         same = ap (λ l. block (record { rows = l }) (unmarked_disjunctions (disjunctions t.closed))) (rows_at_same line items.rows) ∙ ap (λ l. block (record { rows = unmarked_rows items.rows }) l) t.same;
+        printed = words_appended (map (row_line m) items.rows) (disjunctions_lines m ds) (rows_printed m vs items.rows ctx s.0 h.0) t.printed;
         firsts = t.firsts;
       }
 
@@ -431,6 +457,7 @@ mutual
     closed = [];
     leads = ap (λ l. headed (in_block vs g l o os)) (sym (append-nil bs)) ∙ ap (λ l. headed (in_block vs g (bs ++ []) (record o { closed = l }) os)) (sym (append-nil o.closed));
     same = refl;
+    printed = refl;
     firsts = first_booleans m bs (bs ++ []) later (sym (append-nil bs)) f;
   }
   disjunctions_lead m vs g bs o os line (disjunction head js ds) later ctx f rows shallow sound stored =
@@ -455,6 +482,7 @@ mutual
     closed = [];
     leads = ap (λ l. headed (in_disjunction vs g l o d os)) (sym (append-nil bs)) ∙ ap (λ l. headed (in_disjunction vs g (bs ++ []) o (record d { closed = l }) os)) (sym (append-nil d.closed));
     same = refl;
+    printed = refl;
     firsts = first_booleans m bs (bs ++ []) later (sym (append-nil bs)) f;
   }
   disjuncts_lead m vs g bs o d os line (disjunct head b js) later ctx f rows shallow sound stored =
