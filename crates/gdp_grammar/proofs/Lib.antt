@@ -20,6 +20,7 @@ pub mod PointGrown
 pub mod PointNames
 pub mod PointOnce
 pub mod Printed
+pub mod Printouts
 pub mod Rebuilt
 pub mod Respelled
 pub mod Scales

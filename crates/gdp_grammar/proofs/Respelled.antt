@@ -22,7 +22,7 @@ use Rattle.block_tree.specs.Values.{GoalValue, ModelTree}
 use Rattle.block_tree.specs.Variables.{VarValue, BooleanValue}
 use Rattle.block_tree.specs.View.{disjunctions}
 use Rattle.gdp_grammar.specs.Canonical.{text_of, line_of, sense_word, goal_words, var_names, boolean_names, terms_over, var_line, boolean_line, goal_line, block_lines, numbers_of, indicators, free_from, free_booleans, canonical_lines, canonical_text}
-use Rattle.gdp_grammar.specs.CanonicalLaws.{unmarked_vars, unmarked_booleans, unmarked_goal, unmarked_block, unmarked, is_stored, AreSame, CanonicalSpells}
+use Rattle.gdp_grammar.specs.CanonicalLaws.{unmarked_vars, unmarked_booleans, unmarked_goal, unmarked_block, unmarked, is_stored, AreSame, CanonicalSpells, CanonicalAgain}
 use Rattle.gdp_grammar.specs.Forms.{Var, Boolean}
 use Rattle.gdp_grammar.specs.Lines.{lines_of}
 use Rattle.gdp_grammar.specs.Lowest.{over}
@@ -34,6 +34,8 @@ use Rattle.gdp_grammar.proofs.Again.{both, and_true, is_printed, are_printed, te
 use Rattle.gdp_grammar.proofs.FormsGiven.{CanDeclare, CanDeclareBoolean, CanAim, AreWhole, var_given, boolean_given, goal_given, row_whole, terms_fit, fit_over}
 use Rattle.gdp_grammar.proofs.LinesAgain.{IsShort, var_form_again, boolean_form_again, goal_form_again, goal_form, end_for}
 use Rattle.gdp_grammar.proofs.LinesLead.{headed, line_lead, leads_then, leads_one, leads_to, var_printed, named_printed, goal_printed, words_appended}
+use Rattle.gdp_grammar.proofs.Once.{one_model}
+use Rattle.gdp_grammar.proofs.Unmarked.{canonical_ignores_marks}
 use Rattle.gdp_grammar.proofs.Rebuilt.{IsFit, IsEndFit, end_short, fit_short, terms_read}
 use Rattle.gdp_grammar.proofs.TreeLead.{IsContext, in_block, AreFirst, BlockGiven, block_lead, name_at, name_among, fresh, booleans_length, names_length}
 
@@ -391,3 +393,10 @@ whole m sound stored =
 
 pub canonical_spells : CanonicalSpells
 canonical_spells m sound stored = let s = whole m sound stored in (s.spelled, s.spells, s.same)
+
+pub canonical_again : CanonicalAgain
+canonical_again m n sound stored spells =
+    let s = whole m sound stored in
+    let is : s.spelled ≡ n = one_model (canonical_text m) s.spelled n s.spells spells in
+    let same : AreSame n m = subst (λ (x : ModelTree). AreSame x m) is s.same in
+    (same, canonical_ignores_marks m n same)

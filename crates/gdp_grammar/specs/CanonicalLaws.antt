@@ -7,6 +7,7 @@ use Rattle.block_tree.specs.Tree.{BlockTree, block, Disjunctions, no_disjunction
 use Rattle.block_tree.specs.Values.{GoalValue, ModelTree}
 use Rattle.block_tree.specs.Variables.{VarValue, BooleanValue}
 use Rattle.gdp_grammar.specs.Canonical.{canonical_text}
+use Rattle.gdp_grammar.specs.CanonicalWorked as worked
 use Rattle.gdp_grammar.specs.Spelling.{Spells}
 
 -- rows without their marks
@@ -68,3 +69,13 @@ CanonicalSpells = (m : ModelTree) → IsSound m → is_stored m.root ≡ true �
 -- Models that are the same but for their marks have the same canonical text.
 abbrev pub CanonicalIgnoresMarks : Type 0
 CanonicalIgnoresMarks = (m n : ModelTree) → AreSame n m → canonical_text n ≡ canonical_text m
+
+-- What the canonical text of a model spells is the model but for its marks, and has the same canonical text.
+abbrev pub CanonicalAgain : Type 0
+CanonicalAgain = (m n : ModelTree) → IsSound m → is_stored m.root ≡ true → Spells (canonical_text m) n → AreSame n m × (canonical_text n ≡ canonical_text m)
+
+-- Three models and their canonical texts.
+pub record CanonicalTexts : Type 0 where
+  pub plant : canonical_text worked.plant ≡ worked.plant_text
+  pub nest : canonical_text worked.nest ≡ worked.nest_text
+  pub alone : canonical_text worked.alone ≡ worked.alone_text

@@ -1,5 +1,6 @@
 pub mod Canonical
 pub mod CanonicalLaws
+pub mod CanonicalWorked
 pub mod Causes
 pub mod Classes
 pub mod Declaring

@@ -9,6 +9,7 @@
 //! (`feeding.rt`).
 #![tactic(auto)]
 
+pub mod canonical_laws;
 pub mod cause;
 pub mod class;
 pub mod feeding;
