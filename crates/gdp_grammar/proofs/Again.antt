@@ -1,5 +1,5 @@
 -- What is read again of printed bytes: their lines and their tokens.
-use Rattle.std.proofs.Common.{◌≡◌, ℕ, zero, suc, ◌+◌, ◌-◌, ◌*◌, ◌/◌, ◌%◌, ◌^◌, ◌<◌, ◌≤◌, Bool, true, false, if◌then◌else◌, eqb, ◌==◌, ◌&&◌, ◌||◌, not, List, [], ◌∷◌, ◌++◌, length, codes, inl, inr, refl, ap, sym, subst, ◌∙◌, append_assoc, length-append, arith}
+use Rattle.std.proofs.Common.{◌≡◌, ℕ, ◌+◌, ◌-◌, ◌*◌, ◌/◌, ◌%◌, ◌^◌, ◌<◌, ◌≤◌, Bool, true, false, ◌==◌, ◌&&◌, ◌||◌, not, List, [], ◌∷◌, ◌++◌, length, codes, refl, ap, ◌∙◌, append_assoc, length-append, arith}
 use Rattle.std.specs.List.{list_all}
 use Rattle.std.specs.Fmt as fmt
 use Rattle.std.proofs.lemmas.Fmt.{decimal_by_steps_wide}
@@ -14,7 +14,6 @@ use Rattle.gdp_grammar.specs.Classes.{belongs, front, rest}
 use Rattle.gdp_grammar.specs.Lines.{lines_of, newline_next, onto_first, without_comment}
 use Rattle.gdp_grammar.specs.Numerals.{Numeral, Whole, Fraction, decimal}
 use Rattle.gdp_grammar.specs.Tokens.{Piece, Word, Number, Mark, numeral_of, double_of, token_of, tokens_of}
-use Rattle.gdp_grammar.proofs.Cutting.{told}
 use Rattle.gdp_grammar.proofs.Pieces.{blank_before, token_before}
 
 pub both : (a b : Bool) → (a && b) ≡ true → (a ≡ true) × (b ≡ true)

@@ -1,44 +1,39 @@
 -- What the forms of printed lines add to a building.
-use Rattle.std.proofs.Common.{◌≡◌, ◌≢◌, ℕ, zero, suc, ◌+◌, ◌^◌, ◌<◌, ◌≤◌, ℤ, pos, negsuc, ◌*ℤ◌, ◌<ℤ◌, int_lt, Bool, true, false, ◌&&◌, ◌||◌, not, nat_lt, nat_le, nat_eq, ◌==◌, if◌then◌else◌, List, [], ◌∷◌, ◌++◌, length, map, Option, None, Some, Result, Ok, Err, refl, ap, sym, subst, ◌∙◌, arith}
-use Rattle.std.specs.Prelude.{unsigned_abs, is_some, is_none}
-use Rattle.std.specs.List.{list_all}
-use Rattle.std.proofs.lemmas.Bool.{cond-true, cond-false}
+use Rattle.std.proofs.Common.{◌≡◌, ℕ, zero, suc, ◌^◌, ◌<◌, ◌≤◌, ℤ, pos, negsuc, ◌*ℤ◌, Bool, true, false, ◌&&◌, ◌||◌, not, nat_lt, nat_le, ◌==◌, if◌then◌else◌, List, [], ◌∷◌, ◌++◌, length, map, Option, None, Some, Result, Ok, refl, ap, sym, subst, ◌∙◌, arith}
+use Rattle.std.specs.Prelude.{unsigned_abs, is_some}
 use Rattle.std.proofs.lemmas.Bool.Decides.{nat_tests}
 use Rattle.std.proofs.lemmas.Int.{ints}
 use Rattle.fractions.specs.Fraction as fraction
 use Rattle.fractions.specs.Fraction.{IsLowest, IsReduced}
 use Rattle.fractions.specs.Memory.{refuse_if}
 use Rattle.fractions.proofs.Reduction.{reduced_same}
-use Rattle.lp_rows.specs.declared.kinds.Kind.{Kind}
-use Rattle.lp_rows.specs.declared.kinds.Rel.{Rel}
 use Rattle.lp_rows.specs.declared.kinds.Sense.{Sense}
 use Rattle.lp_rows.specs.Holding.{ids_below}
 use Rattle.lp_rows.specs.declared.rows.RowError.{RowError}
 use Rattle.lp_rows.specs.Rows.{RowValue, is_storable, ascends_from, has_zero, are_storable, row_refusal}
-use Rattle.block_tree.specs.declared.bounds.Bound.{Bound}
 use Rattle.block_tree.specs.declared.errors.BuildError.{BuildError}
 use Rattle.block_tree.specs.declared.errors.BuildError.TheVariants.{Limit}
-use Rattle.block_tree.specs.Building.{BuildingValue, is_at_root, is_taken, is_bound, has_small_parts, are_numbers, are_ids_below, refusal_of_terms, refusal_of_row, row_outcome, rows_so_far, stored_row, var_outcome}
-use Rattle.block_tree.specs.Names.{has_name, is_name}
-use Rattle.block_tree.specs.Nesting.{goal_outcome, stored_goal, boolean_outcome, refusal_of_scale}
-use Rattle.block_tree.specs.Scaling.{divides_all, scale_of, stored_terms, scaled, has_id_twice, is_multiple}
+use Rattle.block_tree.specs.Building.{BuildingValue, is_at_root, is_taken, is_bound, are_ids_below, refusal_of_terms, rows_so_far}
+use Rattle.block_tree.specs.Names.{is_name}
+use Rattle.block_tree.specs.Nesting.{goal_outcome, refusal_of_scale}
+use Rattle.block_tree.specs.Scaling.{divides_all, is_multiple}
 use Rattle.block_tree.specs.Sound.{are_names}
 use Rattle.block_tree.specs.Values.{GoalValue}
-use Rattle.block_tree.specs.Variables.{VarValue, BooleanValue}
+use Rattle.block_tree.specs.Variables.{VarValue}
 use Rattle.block_tree.proofs.Multiples.{divides}
 use Rattle.std.specs.Int.{◌∣◌, IsGcd}
 use Rattle.std.proofs.lemmas.Nat.Gcd.{le_of_dvd}
 use Rattle.std.proofs.Math.Nat.{one-dvd, pos_of_dvd_of_pos}
 use Rattle.int_linear.proofs.Ring.{zero_mul}
 use Rattle.gdp_grammar.specs.declared.cause.ReadCause.{ReadCause}
-use Rattle.gdp_grammar.specs.Canonical.{name_in, terms_over}
+use Rattle.gdp_grammar.specs.Canonical.{terms_over}
 use Rattle.gdp_grammar.specs.Forms.{Signed, Summand, Var, Boolean, Goal, Row}
 use Rattle.gdp_grammar.specs.Lowest.{over}
-use Rattle.gdp_grammar.specs.Reading.{id_of, terms_of, end_of, constant_value, with_var, with_row, with_goal, with_form, after_call, or_cause}
+use Rattle.gdp_grammar.specs.Reading.{terms_of, constant_value, with_var, with_row, with_goal, with_form, after_call, or_cause}
 use Rattle.gdp_grammar.specs.declared.cause.ReadCause.TheVariants.{Form, Number}
 use Rattle.gdp_grammar.specs.Causes as cause
 use Rattle.gdp_grammar.specs.Causes.{◌>>=◌}
-use Rattle.gdp_grammar.proofs.Again.{both, and_true}
+use Rattle.gdp_grammar.proofs.Again.{both}
 use Rattle.gdp_grammar.proofs.LinesAgain.{end_for, signed_for, summands_for, constant_for, goal_form}
 use Rattle.gdp_grammar.proofs.Lowest.{over_reduced}
 use Rattle.gdp_grammar.proofs.Rebuilt.{IsFit, IsEndFit, AreTermsFit, end_again, value_again, terms_again}
@@ -89,8 +84,12 @@ ids_over n scale (t ∷ ts) = ap (λ b. nat_lt t.0 n && b) (ids_over n scale ts)
 pub terms_pass : (n s : ℕ) (ts : List (ℕ × ℤ)) (z : ℤ) (below : Option BuildError) → AreWhole s ts z → ids_below n ts ≡ true
     → refusal_of_terms n (terms_over (pos s) ts) (over (pos s) z) below ≡ below
 terms_pass n s ts z below w ids =
-    rw (never_twice 0 (terms_over (pos s) ts) (ascends_over (pos s) 0 ts ∙ w.ascends), ids_over n (pos s) ts ∙ ids, scale_again s ts z w.some w.least,
-        numbers_again s ts z w.some w.small w.ascends w.nonzero w.stored w.number) refl
+    rw (
+      never_twice 0 (terms_over (pos s) ts) (ascends_over (pos s) 0 ts ∙ w.ascends),
+      ids_over n (pos s) ts ∙ ids,
+      scale_again s ts z w.some w.least,
+      numbers_again s ts z w.some w.small w.ascends w.nonzero w.stored w.number,
+    ) refl
 
 size_within : (z : ℤ) → is_storable z ≡ true → unsigned_abs z ≤ 10 ^ 15
 size_within z p = grind (arith, nat_tests)
@@ -158,17 +157,23 @@ length_names vars names e = ap length (sym e) ∙ length_map vars
 
 pub row_given : (b : BuildingValue) (line : ℕ) (names : List (List ℕ)) (r : RowValue) → CanAppend b names r
     → with_form b line (Row (summands_for names (terms_over (pos 1) r.terms)) r.rel (signed_for (over (pos 1) r.right)))
-      ≡ Ok (record b { inner = record b.inner { rows = b.inner.rows ++ (r, line) ∷ [] } })
+    ≡ Ok (record b { inner = record b.inner { rows = b.inner.rows ++ (r, line) ∷ [] } })
 unfolding with_row
 row_given b line names r can =
     let w = row_whole r can.row in
     let fit : AreTermsFit (length names) (terms_over (pos 1) r.terms) = terms_fit (length names) 1 r.terms w.some w.small w.stored can.ids in
     let ids : ids_below (length b.vars) r.terms ≡ true = ap (λ n. ids_below n r.terms) (sym (length_names b.vars names can.vars)) ∙ can.ids in
     let place : is_some b.opened ≡ false = ap is_some can.place in
-    rw (place, terms_again b.vars names (terms_over (pos 1) r.terms) can.vars can.differ fit (ascends_over (pos 1) 0 r.terms ∙ w.ascends),
-        value_again (over (pos 1) r.right) (fit_over 1 r.right w.some w.small w.number),
-        terms_pass (length b.vars) 1 r.terms r.right (refuse_if (nat_le 1000 (rows_so_far b)) Limit None) w ids, can.few,
-        scale_again 1 r.terms r.right w.some w.least, stored_again 1 r.terms w.some w.ascends, scaled_again 1 r.right w.some) refl
+    rw (
+      place,
+      terms_again b.vars names (terms_over (pos 1) r.terms) can.vars can.differ fit (ascends_over (pos 1) 0 r.terms ∙ w.ascends),
+      value_again (over (pos 1) r.right) (fit_over 1 r.right w.some w.small w.number),
+      terms_pass (length b.vars) 1 r.terms r.right (refuse_if (nat_le 1000 (rows_so_far b)) Limit None) w ids,
+      can.few,
+      scale_again 1 r.terms r.right w.some w.least,
+      stored_again 1 r.terms w.some w.ascends,
+      scaled_again 1 r.right w.some,
+    ) refl
 
 -- the goal is set
 pub record CanAim (b : BuildingValue) (names : List (List ℕ)) (g : GoalValue) (s : ℕ) : Type 0 where
@@ -213,12 +218,19 @@ constant_again f fit = go (unsigned_abs f.num == 0) refl
 
 goal_set : (b : BuildingValue) (line : ℕ) (names : List (List ℕ)) (g : GoalValue) (s : ℕ) → CanAim b names g s
     → goal_outcome g.sense (terms_over (pos s) g.terms) (over (pos s) g.constant) line b
-      ≡ (Ok tt, record b { goal = Some (record { sense = g.sense; terms = g.terms; constant = g.constant; scale = pos s; mark = line }) })
+    ≡ (Ok tt, record b { goal = Some (record { sense = g.sense; terms = g.terms; constant = g.constant; scale = pos s; mark = line }) })
 goal_set b line names g s can =
     let w = can.whole in
     let ids : ids_below (length b.vars) g.terms ≡ true = ap (λ n. ids_below n g.terms) (sym (length_names b.vars names can.vars)) ∙ can.ids in
-    rw (can.root, can.none, terms_pass (length b.vars) s g.terms g.constant (refusal_of_scale (terms_over (pos s) g.terms) (over (pos s) g.constant)) w ids,
-        scale_again s g.terms g.constant w.some w.least, w.small, stored_again s g.terms w.some w.ascends, scaled_again s g.constant w.some) refl
+    rw (
+      can.root,
+      can.none,
+      terms_pass (length b.vars) s g.terms g.constant (refusal_of_scale (terms_over (pos s) g.terms) (over (pos s) g.constant)) w ids,
+      scale_again s g.terms g.constant w.some w.least,
+      w.small,
+      stored_again s g.terms w.some w.ascends,
+      scaled_again s g.constant w.some,
+    ) refl
 
 with_goal_is : (b b' : BuildingValue) (line : ℕ) (sense : Sense) (sum : List Summand) (constant : Option Signed) (ts : List (ℕ × fraction.Fraction)) (f : fraction.Fraction)
     → is_at_root b ≡ true → b.goal ≡ None → terms_of b.vars sum ≡ Ok ts → constant_value constant ≡ Some f → goal_outcome sense ts f line b ≡ (Ok tt, b')
@@ -235,7 +247,7 @@ with_goal_is b b' line sense sum constant ts f root none terms number outcome =
 
 pub goal_given : (b : BuildingValue) (line : ℕ) (names : List (List ℕ)) (g : GoalValue) (s : ℕ) → CanAim b names g s
     → with_form b line (goal_form names g.sense (terms_over (pos s) g.terms) (over (pos s) g.constant))
-      ≡ Ok (record b { goal = Some (record { sense = g.sense; terms = g.terms; constant = g.constant; scale = pos s; mark = line }) })
+    ≡ Ok (record b { goal = Some (record { sense = g.sense; terms = g.terms; constant = g.constant; scale = pos s; mark = line }) })
 goal_given b line names g s can = go (terms_over (pos s) g.terms) refl
   where
     w : AreWhole s g.terms g.constant
@@ -249,7 +261,7 @@ goal_given b line names g s can = go (terms_over (pos s) g.terms) refl
 
     go : (ts : List (ℕ × fraction.Fraction)) → terms_over (pos s) g.terms ≡ ts
         → with_form b line (goal_form names g.sense ts (over (pos s) g.constant))
-          ≡ Ok (record b { goal = Some (record { sense = g.sense; terms = g.terms; constant = g.constant; scale = pos s; mark = line }) })
+        ≡ Ok (record b { goal = Some (record { sense = g.sense; terms = g.terms; constant = g.constant; scale = pos s; mark = line }) })
     go [] e =
         with_goal_is b _ line g.sense [] (Some (signed_for (over (pos s) g.constant))) (terms_over (pos s) g.terms) (over (pos s) g.constant) can.root can.none
         (subst (λ us. terms_of b.vars (summands_for names us) ≡ Ok (terms_over (pos s) g.terms)) e read) (value_again (over (pos s) g.constant) fit) (goal_set b line names g s can)

@@ -1,10 +1,8 @@
 -- The forms of printed lines.
-use Rattle.std.proofs.Common.{◌≡◌, ℕ, zero, suc, ◌+◌, ◌^◌, ◌<◌, ◌≤◌, ℤ, pos, int_lt, Bool, true, false, if◌then◌else◌, ◌==◌, ◌&&◌, not, List, [], ◌∷◌, ◌++◌, length, codes, Option, None, Some, Result, Ok, Err, refl, ap, sym, subst, ◌∙◌, append_assoc, append-nil, arith}
+use Rattle.std.proofs.Common.{◌≡◌, ℕ, zero, suc, ◌^◌, ◌<◌, ◌≤◌, ℤ, pos, int_lt, Bool, true, false, if◌then◌else◌, ◌==◌, ◌&&◌, not, List, [], ◌∷◌, ◌++◌, length, codes, Option, None, Some, Ok, refl, ap, sym, ◌∙◌, arith}
 use Rattle.std.specs.Prelude.{unsigned_abs, nat_le}
 use Rattle.std.specs.List.{list_all}
 use Rattle.std.specs.Fmt as fmt
-use Rattle.std.proofs.lemmas.Bool.{cond-true, cond-false}
-use Rattle.std.proofs.lemmas.Bool.Decides.{nat_tests}
 use Rattle.fractions.specs.Fraction as fraction
 use Rattle.lp_rows.specs.declared.kinds.Kind.{Kind}
 use Rattle.lp_rows.specs.declared.kinds.Kind.TheVariants as kind
@@ -14,17 +12,15 @@ use Rattle.lp_rows.specs.declared.kinds.Sense.{Sense}
 use Rattle.lp_rows.specs.declared.kinds.Sense.TheVariants.{Min, Max}
 use Rattle.block_tree.specs.declared.tree.Mode.{Mode}
 use Rattle.block_tree.specs.declared.tree.Mode.TheVariants as mode
-use Rattle.block_tree.specs.declared.bounds.Bound.{Bound}
-use Rattle.block_tree.specs.Names.{begins_name, continues_name, is_digit, is_name, has_name, has_name_shape, reserved_words}
+use Rattle.block_tree.specs.Names.{begins_name, continues_name, is_name, has_name, has_name_shape, reserved_words}
 use Rattle.block_tree.specs.Variables.{VarValue, BooleanValue}
-use Rattle.gdp_grammar.specs.declared.cause.ReadCause.{ReadCause}
 use Rattle.gdp_grammar.specs.declared.symbol.Symbol.TheVariants.{Plus, Minus, AtMost, AtLeast, Equal}
-use Rattle.gdp_grammar.specs.Canonical.{spaced, line_of, size_word, minus_word, number_word, sign_word, end_word, kind_word, rel_word, mode_word, sense_word, var_line, boolean_line, name_in, further_terms, sum_words, constant_words, goal_words, disjunction_line}
-use Rattle.gdp_grammar.specs.Forms.{Form, Var, Boolean, Goal, Row, Disjunction, Disjunct, End, Signed, Summand, form_of, signed_of, low_of, low_after, high_of, summand_of, joint_of, summands_within, summands_of, sum_of, var_of, boolean_of, row_of, terms_goal_of, number_goal_of, constant_of, disjunction_of, disjunct_of, end_of, is_logic, is_nought, word_next, goal_of}
+use Rattle.gdp_grammar.specs.Canonical.{spaced, line_of, size_word, number_word, sign_word, end_word, kind_word, rel_word, mode_word, sense_word, var_line, boolean_line, name_in, further_terms, sum_words, constant_words, goal_words, disjunction_line}
+use Rattle.gdp_grammar.specs.Forms.{Form, Var, Boolean, Goal, Row, Disjunction, Disjunct, End, Signed, Summand, form_of, signed_of, low_of, low_after, high_of, summand_of, joint_of, summands_within, summands_of, sum_of, var_of, boolean_of, row_of, terms_goal_of, number_goal_of, constant_of, disjunction_of, disjunct_of, end_of, is_nought, word_next, goal_of}
 use Rattle.gdp_grammar.specs.Keywords.{is_reserved}
 use Rattle.gdp_grammar.specs.Numerals.{Numeral, Whole, Fraction}
 use Rattle.gdp_grammar.specs.Tokens.{Piece, Word, Number, Mark, tokens_of}
-use Rattle.gdp_grammar.proofs.Again.{both, and_true, and_false, all_weaker, all_appended, is_printed, Reads, IsApart, word_again, whole_again, fraction_again, plus_again, minus_again, minus_before, at_most_again, at_least_again, equal_again, words_again, last_again, first_again, decimal_digits}
+use Rattle.gdp_grammar.proofs.Again.{both, and_false, Reads, word_again, whole_again, fraction_again, plus_again, minus_again, minus_before, at_most_again, at_least_again, equal_again, words_again, last_again, first_again, decimal_digits}
 
 -- how a number's magnitude is spelled, and the number with its sign
 abbrev pub numeral_for : fraction.Fraction → Numeral

@@ -1,11 +1,10 @@
 -- Printed lines lead from one building to the next.
-use Rattle.std.proofs.Common.{◌≡◌, ℕ, zero, suc, ◌+◌, ◌^◌, ◌<◌, ◌≤◌, ℤ, pos, int_lt, Bool, true, false, ◌&&◌, ◌||◌, not, nat_le, ◌==◌, if◌then◌else◌, List, [], ◌∷◌, ◌++◌, length, map, codes, Option, None, Some, Result, Ok, Err, refl, ap, sym, subst, ◌∙◌, arith}
+use Rattle.std.proofs.Common.{◌≡◌, ℕ, ◌+◌, ◌^◌, ◌<◌, ℤ, pos, int_lt, Bool, true, false, ◌&&◌, not, nat_le, ◌==◌, if◌then◌else◌, List, [], ◌∷◌, ◌++◌, length, codes, Option, None, Some, Result, Ok, refl, ap, sym, subst, ◌∙◌, arith}
 use Rattle.std.specs.Prelude.{unsigned_abs}
 use Rattle.std.specs.List.{list_all}
 use Rattle.std.specs.Str.{bytes_eq}
 use Rattle.std.specs.Fmt as fmt
 use Rattle.std.proofs.lemmas.Slice.Eq.{bytes_eq-Decides}
-use Rattle.std.proofs.lemmas.Bool.{cond-true, cond-false}
 use Rattle.std.proofs.lemmas.Bool.Decides.{nat_tests}
 use Rattle.fractions.specs.Fraction as fraction
 use Rattle.lp_rows.specs.declared.kinds.Kind.{Kind}
@@ -18,18 +17,18 @@ use Rattle.block_tree.specs.declared.tree.Mode.{Mode}
 use Rattle.block_tree.specs.declared.tree.Mode.TheVariants as mode
 use Rattle.block_tree.specs.Building.{BuildingValue}
 use Rattle.block_tree.specs.Names.{begins_name, continues_name, is_digit, is_name, has_name, has_name_shape, reserved_words}
-use Rattle.block_tree.specs.Variables.{VarValue, BooleanValue}
+use Rattle.block_tree.specs.Variables.{VarValue}
 use Rattle.gdp_grammar.specs.declared.cause.ReadCause.{ReadCause}
 use Rattle.gdp_grammar.specs.declared.cause.ReadCause.TheVariants.{NotBuilt}
-use Rattle.gdp_grammar.specs.Canonical.{spaced, line_of, size_word, minus_word, number_word, sign_word, end_word, kind_word, rel_word, mode_word, sense_word, var_line, boolean_line, name_in, further_terms, sum_words, constant_words, goal_words, disjunction_line}
+use Rattle.gdp_grammar.specs.Canonical.{spaced, line_of, size_word, number_word, sign_word, end_word, kind_word, rel_word, sense_word, var_line, name_in, further_terms, sum_words, constant_words, goal_words, disjunction_line}
 use Rattle.gdp_grammar.specs.Causes.{◌>>=◌, refuse_if}
 use Rattle.gdp_grammar.specs.Forms.{Form, form_of, form_after, is_logic}
 use Rattle.gdp_grammar.specs.Lines.{without_comment}
 use Rattle.gdp_grammar.specs.Reading.{Taken, with_form, with_tokens, with_content, with_line}
 use Rattle.gdp_grammar.specs.Spelling.{Leads}
 use Rattle.gdp_grammar.specs.Tokens.{Piece, Word, Number, Mark, Stray, tokens_of}
-use Rattle.gdp_grammar.proofs.Again.{both, and_true, all_appended, all_weaker, is_printed, are_printed, without_comment_again, AreDigits, decimal_digits}
-use Rattle.gdp_grammar.proofs.LinesAgain.{IsShort, IsEndShort, AreTermsAgain, IsTermAgain}
+use Rattle.gdp_grammar.proofs.Again.{both, and_true, all_appended, all_weaker, is_printed, are_printed, without_comment_again, decimal_digits}
+use Rattle.gdp_grammar.proofs.LinesAgain.{IsShort, IsEndShort, AreTermsAgain}
 
 -- after the header
 abbrev pub headed : BuildingValue → Taken

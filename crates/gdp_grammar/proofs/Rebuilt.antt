@@ -1,7 +1,7 @@
 -- What the builder makes of printed lines, line by line.
-use Rattle.std.proofs.Common.{◌≡◌, ◌≢◌, ℕ, zero, suc, ◌+◌, ◌*◌, ◌^◌, ◌<◌, ◌≤◌, ℤ, pos, negsuc, neg_ℤ, ◌*ℤ◌, ◌<ℤ◌, int_lt, Bool, true, false, ◌&&◌, ◌||◌, not, nat_lt, nat_le, nat_eq, ◌==◌, if◌then◌else◌, cond, List, [], ◌∷◌, ◌++◌, length, map, Option, None, Some, Result, Ok, Err, slice_index_or, refl, ap, sym, subst, ◌∙◌, arith}
-use Rattle.std.specs.Prelude.{unsigned_abs, is_some, is_none}
-use Rattle.std.specs.List.{list_all, list_any, prefix_len, position}
+use Rattle.std.proofs.Common.{◌≡◌, ℕ, zero, suc, ◌^◌, ◌<◌, ◌≤◌, ℤ, pos, negsuc, neg_ℤ, ◌<ℤ◌, int_lt, Bool, true, false, ◌&&◌, ◌||◌, not, nat_lt, nat_le, ◌==◌, if◌then◌else◌, cond, List, [], ◌∷◌, length, map, Option, None, Some, Ok, refl, ap, sym, subst, ◌∙◌, arith}
+use Rattle.std.specs.Prelude.{unsigned_abs}
+use Rattle.std.specs.List.{prefix_len, position}
 use Rattle.std.specs.Str.{bytes_eq}
 use Rattle.std.specs.Fmt as fmt
 use Rattle.std.proofs.lemmas.Slice.Eq.{bytes_eq-Decides}
@@ -10,32 +10,18 @@ use Rattle.std.proofs.lemmas.Bool.Decides.{nat_tests}
 use Rattle.std.proofs.lemmas.Int.{ints}
 use Rattle.fractions.specs.Fraction as fraction
 use Rattle.fractions.specs.Fraction.{IsLowest, IsReduced}
-use Rattle.fractions.proofs.Reduction.{reduced_same}
-use Rattle.lp_rows.specs.declared.kinds.Kind.{Kind}
-use Rattle.lp_rows.specs.declared.kinds.Rel.{Rel}
-use Rattle.lp_rows.specs.declared.kinds.Sense.{Sense}
-use Rattle.lp_rows.specs.Holding.{ids_below}
-use Rattle.lp_rows.specs.Rows.{RowValue, is_storable, ascends_from, has_zero, are_storable, row_refusal}
-use Rattle.block_tree.specs.declared.bounds.Bound.{Bound}
-use Rattle.block_tree.specs.declared.errors.BuildError.{BuildError}
-use Rattle.block_tree.specs.Building.{BuildingValue, is_at_root, is_taken, is_bound, has_small_parts, are_numbers, are_ids_below, refusal_of_terms, row_outcome, rows_so_far, stored_row, var_outcome}
+use Rattle.lp_rows.specs.Rows.{ascends_from}
 use Rattle.block_tree.specs.Names.{has_name, is_name}
-use Rattle.block_tree.specs.Nesting.{goal_outcome, stored_goal}
-use Rattle.block_tree.specs.Scaling.{divides_all, scale_of, stored_terms, scaled, has_id_twice}
 use Rattle.block_tree.specs.Sound.{are_names}
-use Rattle.block_tree.specs.Values.{GoalValue}
-use Rattle.block_tree.specs.Variables.{VarValue, BooleanValue}
-use Rattle.gdp_grammar.specs.declared.cause.ReadCause.{ReadCause}
-use Rattle.gdp_grammar.specs.Canonical.{name_in, terms_over}
-use Rattle.gdp_grammar.specs.Forms.{Signed, Summand}
+use Rattle.block_tree.specs.Variables.{VarValue}
+use Rattle.gdp_grammar.specs.Canonical.{name_in}
+use Rattle.gdp_grammar.specs.Forms.{Summand}
 use Rattle.gdp_grammar.specs.Lowest.{over}
-use Rattle.gdp_grammar.specs.Numerals.{Numeral, Whole, Fraction, decimal, over_part, under_part, are_parts, signed, lowest, ratio, value_of}
-use Rattle.gdp_grammar.specs.Reading.{id_of, named, stands_in, has_twice, known_terms, valued_terms, coefficient_of, terms_of, end_of, constant_value, with_var, with_row, with_goal, with_form}
-use Rattle.gdp_grammar.proofs.Again.{both, and_true, decimal_value}
+use Rattle.gdp_grammar.specs.Numerals.{Whole, Fraction, over_part, under_part, are_parts, signed, lowest, ratio, value_of}
+use Rattle.gdp_grammar.specs.Reading.{id_of, named, stands_in, has_twice, known_terms, valued_terms, terms_of, end_of}
+use Rattle.gdp_grammar.proofs.Again.{both, decimal_value}
 use Rattle.gdp_grammar.proofs.Euclid.{lowest_only}
-use Rattle.gdp_grammar.proofs.LinesAgain.{IsShort, IsEndShort, AreTermsAgain, IsTermAgain, numeral_for, signed_for, end_for, summand_for, summands_for, constant_for}
-use Rattle.gdp_grammar.proofs.Lowest.{over_reduced}
-use Rattle.gdp_grammar.proofs.Scales.{scale_again, scaled_again, stored_again, numbers_again, never_twice, num_small, den_small, ascends_over}
+use Rattle.gdp_grammar.proofs.LinesAgain.{IsShort, IsEndShort, AreTermsAgain, numeral_for, end_for, summand_for, summands_for}
 
 -- a number that is written and read as itself: in lowest terms, of small parts
 pub record IsFit (f : fraction.Fraction) : Type 0 where
@@ -93,7 +79,7 @@ value_again f fit =
     let b : Bool = int_lt f.num (pos 0) in
     let some : 0 < d = den_some f.den fit.lowest.positive in
     let reduced : IsReduced (signed b n) (pos d) f =
-        subst (λ (x : ℤ). IsReduced x (pos d) f) (sym (signed_size f.num)) (subst (λ (x : ℤ). IsReduced f.num x f) (sym (den_size f.den fit.lowest.positive)) (reduced_itself f fit.lowest)) in
+    subst (λ (x : ℤ). IsReduced x (pos d) f) (sym (signed_size f.num)) (subst (λ (x : ℤ). IsReduced f.num x f) (sym (den_size f.den fit.lowest.positive)) (reduced_itself f fit.lowest)) in
     ap (λ x. ratio b x (under_part (numeral_for f))) (over_is f fit) ∙ ap (λ x. ratio b n x) (under_is f fit)
     ∙ cond-true (are_parts n d) (Some (lowest b n d)) None (parts_fit n d fit.num some fit.den)
     ∙ ap (λ x. Some x) (sym (lowest_only b n d f some reduced))
@@ -199,6 +185,7 @@ stands_above id least (t ∷ ts) l a =
   where
     other : (id least x : ℕ) → nat_lt id least ≡ true → nat_le least x ≡ true → (id == x) ≡ false
     other id least x p q = grind (arith, nat_tests)
+
     more : (id least x : ℕ) → nat_lt id least ≡ true → nat_le least x ≡ true → nat_lt id (suc x) ≡ true
     more id least x p q = grind (arith, nat_tests)
 

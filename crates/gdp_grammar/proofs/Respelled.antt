@@ -1,43 +1,40 @@
 -- The canonical text of a model spells the model, marks aside.
-use Rattle.std.proofs.Common.{◌≡◌, ℕ, zero, suc, ◌+◌, ◌^◌, ◌<◌, ◌≤◌, ℤ, pos, negsuc, ◌<ℤ◌, ◌-◌, int_lt, Bool, true, false, ◌&&◌, ◌||◌, not, nat_lt, nat_le, ◌==◌, if◌then◌else◌, List, [], ◌∷◌, ◌++◌, length, map, take, drop, codes, Option, None, Some, Result, Ok, Err, refl, ap, sym, subst, ◌∙◌, append_assoc, append-nil, length-append, arith}
-use Rattle.std.specs.Prelude.{unsigned_abs, is_some, is_none, All}
+use Rattle.std.proofs.Common.{◌≡◌, ℕ, zero, suc, ◌+◌, ◌^◌, ◌<◌, ◌≤◌, ℤ, pos, negsuc, ◌-◌, int_lt, Bool, true, false, ◌&&◌, ◌||◌, not, nat_le, ◌==◌, List, [], ◌∷◌, ◌++◌, length, map, take, drop, codes, Option, None, Some, Ok, refl, ap, sym, subst, ◌∙◌, append_assoc, append-nil, length-append, arith}
+use Rattle.std.specs.Prelude.{unsigned_abs, is_none, All}
 use Rattle.std.specs.List.{list_all, list_any}
-use Rattle.std.specs.Option.{ForSome}
 use Rattle.std.proofs.lemmas.Bool.{cond-true, cond-false}
 use Rattle.std.proofs.lemmas.Bool.Decides.{nat_tests}
-use Rattle.std.proofs.lemmas.Int.{ints}
 use Rattle.std.proofs.lemmas.List.{map-append}
 use Rattle.fractions.specs.Fraction as fraction
 use Rattle.lp_rows.specs.declared.kinds.Rel.TheVariants.{Equal}
 use Rattle.lp_rows.specs.Holding.{ids_below}
-use Rattle.lp_rows.specs.Rows.{RowValue, row_refusal, is_storable}
+use Rattle.lp_rows.specs.Rows.{row_refusal, is_storable}
 use Rattle.block_tree.proofs.Keeping as keeping
 use Rattle.block_tree.specs.declared.bounds.Bound.{Bound}
-use Rattle.block_tree.specs.Building.{BuildingValue, OpenBlock, empty_block, new_building, is_empty, is_taken, is_bound, is_end_small, has_small_parts, are_crossed, rows_so_far, built_model}
+use Rattle.block_tree.specs.Building.{BuildingValue, empty_block, new_building, is_empty, is_taken, is_bound, is_end_small, are_crossed, built_model}
 use Rattle.block_tree.specs.Names.{has_name, is_name}
-use Rattle.block_tree.specs.Scaling.{divides_all, IsInLowest}
 use Rattle.block_tree.specs.Sound.{IsSound, IsEndLowest, AreEndsLowest, are_names, are_bounds, is_goal_sound, IsScaleLeast, are_last_of}
 use Rattle.block_tree.specs.Tree.{DisjunctHead, below, block}
 use Rattle.block_tree.specs.Values.{GoalValue, ModelTree}
 use Rattle.block_tree.specs.Variables.{VarValue, BooleanValue}
 use Rattle.block_tree.specs.View.{disjunctions}
-use Rattle.gdp_grammar.specs.Canonical.{text_of, line_of, sense_word, goal_words, var_names, boolean_names, terms_over, var_line, boolean_line, goal_line, block_lines, numbers_of, indicators, free_from, free_booleans, canonical_lines, canonical_text}
-use Rattle.gdp_grammar.specs.CanonicalLaws.{unmarked_vars, unmarked_booleans, unmarked_goal, unmarked_block, unmarked, is_stored, AreSame, CanonicalSpells, CanonicalAgain}
+use Rattle.gdp_grammar.specs.Canonical.{text_of, line_of, sense_word, goal_words, var_names, boolean_names, terms_over, var_line, boolean_line, goal_line, block_lines, numbers_of, free_from, free_booleans, canonical_lines, canonical_text}
+use Rattle.gdp_grammar.specs.CanonicalLaws.{unmarked_vars, unmarked_booleans, unmarked_goal, unmarked_block, is_stored, AreSame, CanonicalSpells, CanonicalAgain}
 use Rattle.gdp_grammar.specs.Forms.{Var, Boolean}
 use Rattle.gdp_grammar.specs.Lines.{lines_of}
 use Rattle.gdp_grammar.specs.Lowest.{over}
-use Rattle.gdp_grammar.specs.Reading.{Taken, nothing_taken, with_line, model_after}
+use Rattle.gdp_grammar.specs.Reading.{nothing_taken, with_line, model_after}
 use Rattle.gdp_grammar.specs.Spelling.{Leads, Spells}
 use Rattle.gdp_grammar.specs.Tokens.{token_of, tokens_of}
 use Rattle.gdp_grammar.specs.Words.{words_of}
 use Rattle.gdp_grammar.proofs.Again.{both, and_true, is_printed, are_printed, text_lines_again}
-use Rattle.gdp_grammar.proofs.FormsGiven.{CanDeclare, CanDeclareBoolean, CanAim, AreWhole, var_given, boolean_given, goal_given, row_whole, terms_fit, fit_over}
+use Rattle.gdp_grammar.proofs.FormsGiven.{AreWhole, var_given, boolean_given, goal_given, row_whole, terms_fit, fit_over}
 use Rattle.gdp_grammar.proofs.LinesAgain.{IsShort, var_form_again, boolean_form_again, goal_form_again, goal_form, end_for}
-use Rattle.gdp_grammar.proofs.LinesLead.{headed, line_lead, leads_then, leads_one, leads_to, var_printed, named_printed, goal_printed, words_appended}
+use Rattle.gdp_grammar.proofs.LinesLead.{headed, line_lead, leads_then, leads_to, var_printed, named_printed, goal_printed, words_appended}
 use Rattle.gdp_grammar.proofs.Once.{one_model}
 use Rattle.gdp_grammar.proofs.Unmarked.{canonical_ignores_marks}
-use Rattle.gdp_grammar.proofs.Rebuilt.{IsFit, IsEndFit, end_short, fit_short, terms_read}
-use Rattle.gdp_grammar.proofs.TreeLead.{IsContext, in_block, AreFirst, BlockGiven, block_lead, name_at, name_among, fresh, booleans_length, names_length}
+use Rattle.gdp_grammar.proofs.Rebuilt.{IsEndFit, end_short, fit_short, terms_read}
+use Rattle.gdp_grammar.proofs.TreeLead.{IsContext, in_block, AreFirst, block_lead, name_at, name_among, fresh, booleans_length, names_length}
 
 -- variables that follow one another
 vars_at : ℕ → List VarValue → List VarValue
@@ -117,13 +114,14 @@ vars_lead done (v ∷ vs) line rest names few bounds ends =
     let printed : list_all is_printed (var_line v) ≡ true = var_printed v name low high in
     let given = var_given (declared done None []) line v (record { root = refl; new = new; name = name; few = limit_var (length done) (omega (arith, few)); bound = b.0; low = fit.low; high = fit.high }) in
     let names_next : are_names (map (λ (u : VarValue). u.0) (done ++ x ∷ []) ++ after) ≡ true =
-        ap are_names (ap (λ l. l ++ after) (map-append (λ (u : VarValue). u.0) done (x ∷ [])) ∙ append_assoc before (v.0 ∷ []) after) ∙ names in
+    ap are_names (ap (λ l. l ++ after) (map-append (λ (u : VarValue). u.0) done (x ∷ [])) ∙ append_assoc before (v.0 ∷ []) after) ∙ names in
     let next = vars_lead (done ++ x ∷ []) vs (line + 1) rest names_next (omega (arith, few, length-append done (x ∷ []))) b.1 (all_tail (λ (u : VarValue). AreEndsLowest u.2) v vs ends) in
     record {
-      leads =
-          (headed (declared (done ++ x ∷ []) None []),
-           line_lead (declared done None []) (declared (done ++ x ∷ []) None []) line (var_line v) (Var v.0 v.1 (end_for v.2.low) (end_for v.2.high)) printed (var_form_again v name low high) given,
-           leads_to (line + 1) (map var_line vs) _ _ _ next.leads (ap (λ l. headed (declared l None [])) (append_assoc done (x ∷ []) (vars_at (line + 1) vs))));
+      leads = (
+        headed (declared (done ++ x ∷ []) None []),
+        line_lead (declared done None []) (declared (done ++ x ∷ []) None []) line (var_line v) (Var v.0 v.1 (end_for v.2.low) (end_for v.2.high)) printed (var_form_again v name low high) given,
+        leads_to (line + 1) (map var_line vs) _ _ _ next.leads (ap (λ l. headed (declared l None [])) (append_assoc done (x ∷ []) (vars_at (line + 1) vs))),
+      );
       printed = and_true (list_all is_printed (var_line v)) (are_printed (map var_line vs)) printed next.printed;
     }
 
@@ -156,13 +154,14 @@ booleans_lead vs done (b ∷ bs) line rest names few =
     let printed : list_all is_printed (boolean_line b) ≡ true = named_printed (codes "boolean") b.0 refl name in
     let given = boolean_given (declared vs None done) line b.0 (record { root = refl; none = refl; new = new; name = name; few = limit_boolean (length done) (omega (arith, few)) }) in
     let names_next : are_names (vars ++ (map (λ (u : BooleanValue). u.0) (done ++ x ∷ []) ++ after)) ≡ true =
-        ap (λ l. are_names (vars ++ l)) (ap (λ l. l ++ after) (map-append (λ (u : BooleanValue). u.0) done (x ∷ [])) ∙ append_assoc before (b.0 ∷ []) after) ∙ names in
+    ap (λ l. are_names (vars ++ l)) (ap (λ l. l ++ after) (map-append (λ (u : BooleanValue). u.0) done (x ∷ [])) ∙ append_assoc before (b.0 ∷ []) after) ∙ names in
     let next = booleans_lead vs (done ++ x ∷ []) bs (line + 1) rest names_next (omega (arith, few, length-append done (x ∷ []))) in
     record {
-      leads =
-          (headed (declared vs None (done ++ x ∷ [])),
-           line_lead (declared vs None done) (declared vs None (done ++ x ∷ [])) line (boolean_line b) (Boolean b.0) printed (boolean_form_again b name) given,
-           leads_to (line + 1) (map boolean_line bs) _ _ _ next.leads (ap (λ l. headed (declared vs None l)) (append_assoc done (x ∷ []) (booleans_at (line + 1) bs))));
+      leads = (
+        headed (declared vs None (done ++ x ∷ [])),
+        line_lead (declared vs None done) (declared vs None (done ++ x ∷ [])) line (boolean_line b) (Boolean b.0) printed (boolean_form_again b name) given,
+        leads_to (line + 1) (map boolean_line bs) _ _ _ next.leads (ap (λ l. headed (declared vs None l)) (append_assoc done (x ∷ []) (booleans_at (line + 1) bs))),
+      );
       printed = and_true (list_all is_printed (boolean_line b)) (are_printed (map boolean_line bs)) printed next.printed;
     }
 
@@ -303,13 +302,13 @@ goal_lead m vs bs line vars differ w =
     let read = terms_read names ts differ (terms_fit (length names) s g.terms h.some h.small h.stored ids) in
     let short : IsShort f = fit_short f (fit_over s g.constant h.some h.small h.number) in
     let line_is : line_of (sense_word g.sense) (goal_words names ts f) ≡ goal_line m =
-        ap (λ z. line_of (sense_word g.sense) (goal_words names (terms_over z g.terms) (over z g.constant))) (sym w.scale) in
+    ap (λ z. line_of (sense_word g.sense) (goal_words names (terms_over z g.terms) (over z g.constant))) (sym w.scale) in
     let printed : list_all is_printed (line_of (sense_word g.sense) (goal_words names ts f)) ≡ true = goal_printed names g.sense ts f read short in
     let goal : GoalValue = record { sense = g.sense; terms = g.terms; constant = g.constant; scale = pos s; mark = line } in
     let leads : with_line (headed (declared vs None bs)) line (line_of (sense_word g.sense) (goal_words names ts f)) ≡ Ok (headed (declared vs (Some goal) bs)) =
-        line_lead (declared vs None bs) (declared vs (Some goal) bs) line (line_of (sense_word g.sense) (goal_words names ts f)) (goal_form names g.sense ts f) printed
-        (goal_form_again names g.sense ts f read short)
-        (goal_given (declared vs None bs) line names g s (record { vars = vars; differ = differ; root = refl; none = refl; scale = w.scale; whole = h; ids = ids })) in
+    line_lead (declared vs None bs) (declared vs (Some goal) bs) line (line_of (sense_word g.sense) (goal_words names ts f)) (goal_form names g.sense ts f) printed
+    (goal_form_again names g.sense ts f read short)
+    (goal_given (declared vs None bs) line names g s (record { vars = vars; differ = differ; root = refl; none = refl; scale = w.scale; whole = h; ids = ids })) in
     record {
       goal = goal;
       leads = ap (λ l. with_line (headed (declared vs None bs)) line l) (sym line_is) ∙ leads;
@@ -347,9 +346,9 @@ whole m sound stored =
     let v = vars_lead [] m.vars 2 (boolean_names m) sound.names (omega (arith, sound.few_variables)) sound.bounds sound.ends in
     let line2 : ℕ = 2 + length (map var_line m.vars) in
     let b_names : are_names (map (λ (v : VarValue). v.0) vs ++ ([] ++ (map (λ (b : BooleanValue). b.0) free ++ drop k (boolean_names m)))) ≡ true =
-        ap (λ l. are_names (l ++ (map (λ (b : BooleanValue). b.0) free ++ drop k (boolean_names m)))) vars_same
-        ∙ ap (λ l. are_names (var_names m ++ (l ++ drop k (boolean_names m)))) free_names
-        ∙ ap (λ l. are_names (var_names m ++ l)) (take_rest k (boolean_names m)) ∙ sound.names in
+    ap (λ l. are_names (l ++ (map (λ (b : BooleanValue). b.0) free ++ drop k (boolean_names m)))) vars_same
+    ∙ ap (λ l. are_names (var_names m ++ (l ++ drop k (boolean_names m)))) free_names
+    ∙ ap (λ l. are_names (var_names m ++ l)) (take_rest k (boolean_names m)) ∙ sound.names in
     let b = booleans_lead vs [] free line2 (drop k (boolean_names m)) b_names (omega (arith, sound.few_booleans, free_length)) in
     let bs : List BooleanValue = booleans_at line2 free in
     let line3 : ℕ = line2 + length (map boolean_line free) in
@@ -367,20 +366,20 @@ whole m sound stored =
     let last : BuildingValue = in_block vs (Some g.goal) (bs ++ t.more) (record (empty_block 0 0) { rows = t.rows; closed = t.closed }) [] in
     let tail : Leads line3 (headed (declared vs None bs)) (goal_line m ∷ block_lines m m.root) (headed last) = (headed (declared vs (Some g.goal) bs), g.leads, t.leads) in
     let middle : Leads line2 (headed (declared vs None [])) (map boolean_line free ++ goal_line m ∷ block_lines m m.root) (headed last) =
-        leads_then line2 line3 (map boolean_line free) (goal_line m ∷ block_lines m m.root) _ _ _ refl b.leads tail in
+    leads_then line2 line3 (map boolean_line free) (goal_line m ∷ block_lines m m.root) _ _ _ refl b.leads tail in
     let all : Leads 1 nothing_taken (canonical_lines m) (headed last) =
-        (headed new_building, header_lead, leads_then 2 line2 (map var_line m.vars) (map boolean_line free ++ goal_line m ∷ block_lines m m.root) _ _ _ refl v.leads middle) in
+    (headed new_building, header_lead, leads_then 2 line2 (map var_line m.vars) (map boolean_line free ++ goal_line m ∷ block_lines m m.root) _ _ _ refl v.leads middle) in
     let printed : are_printed (canonical_lines m) ≡ true =
-        words_appended (map var_line m.vars) (map boolean_line free ++ goal_line m ∷ block_lines m m.root) v.printed
-        (words_appended (map boolean_line free) (goal_line m ∷ block_lines m m.root) b.printed
-        (and_true (list_all is_printed (goal_line m)) (are_printed (block_lines m m.root)) g.printed t.printed)) in
+    words_appended (map var_line m.vars) (map boolean_line free ++ goal_line m ∷ block_lines m m.root) v.printed
+    (words_appended (map boolean_line free) (goal_line m ∷ block_lines m m.root) b.printed
+    (and_true (list_all is_printed (goal_line m)) (are_printed (block_lines m m.root)) g.printed t.printed)) in
     let lines : lines_of (text_of (canonical_lines m)) ≡ canonical_lines m = text_lines_again (canonical_lines m) printed in
     let vars_length : length vs ≡ length m.vars = sym (names_length vs) ∙ ap length vars_same ∙ names_length m.vars in
     let some : is_empty vs ≡ false = ap (λ x. x == 0) vars_length ∙ sound.some_variable in
     let booleans_same : unmarked_booleans (bs ++ t.more) ≡ unmarked_booleans m.booleans =
-        named_booleans (bs ++ t.more)
-        ∙ ap (map (λ (n : List ℕ). (n, 0))) (t.firsts.names ∙ take_all (length (bs ++ t.more)) (boolean_names m) (omega (arith, booleans_length m.booleans, t.firsts.left)))
-        ∙ sym (named_booleans m.booleans) in
+    named_booleans (bs ++ t.more)
+    ∙ ap (map (λ (n : List ℕ). (n, 0))) (t.firsts.names ∙ take_all (length (bs ++ t.more)) (boolean_names m) (omega (arith, booleans_length m.booleans, t.firsts.left)))
+    ∙ sym (named_booleans m.booleans) in
     record {
       spelled = built_model last;
       spells = (headed last, subst (λ ls. Leads 1 nothing_taken ls (headed last)) (sym lines) all, finish_lead last refl refl some);

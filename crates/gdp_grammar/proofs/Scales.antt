@@ -1,24 +1,22 @@
 -- Whole numbers over a scale, in lowest terms, are stored again as those numbers over that scale.
-use Rattle.std.proofs.Common.{◌≡◌, ℕ, zero, suc, ◌+◌, ◌*◌, ◌/◌, ◌%◌, ◌^◌, ◌<◌, ◌≤◌, ℤ, pos, negsuc, neg_ℤ, ◌*ℤ◌, ◌<ℤ◌, int_lt, Bool, true, false, ◌&&◌, ◌||◌, not, nat_lt, nat_le, nat_eq, ◌==◌, List, [], ◌∷◌, ◌++◌, length, map, refl, ap, sym, subst, ◌∙◌, append_assoc, append-nil, arith}
+use Rattle.std.proofs.Common.{◌≡◌, ℕ, zero, suc, ◌*◌, ◌/◌, ◌^◌, ◌<◌, ◌≤◌, ℤ, pos, negsuc, ◌*ℤ◌, true, false, ◌&&◌, ◌||◌, nat_lt, nat_le, ◌==◌, List, [], ◌∷◌, ◌++◌, map, refl, ap, sym, subst, ◌∙◌, append_assoc, append-nil, arith}
 use Rattle.std.specs.Prelude.{unsigned_abs}
 use Rattle.std.specs.Int.{IsGcd, ◌∣◌}
-use Rattle.std.specs.List.{list_all, list_any}
-use Rattle.std.proofs.Math.Nat.{div-mul_cancel, mul-div_cancel_left, dvd-mul_right, dvd-mul_left, pos_of_dvd_of_pos, div-le_self}
+use Rattle.std.specs.List.{list_all}
+use Rattle.std.proofs.Math.Nat.{div-mul_cancel, mul-div_cancel_left, dvd-mul_right, pos_of_dvd_of_pos, div-le_self}
 use Rattle.std.proofs.lemmas.Bool.Decides.{nat_tests}
-use Rattle.std.proofs.lemmas.Bool.{cond-true, cond-false}
-use Rattle.std.proofs.lemmas.Int.{ints}
+use Rattle.std.proofs.lemmas.Bool.{cond-false}
 use Rattle.std.proofs.lemmas.Nat.Gcd.{le_of_dvd, dvd_trans}
-use Rattle.fractions.specs.Fraction.{Fraction, IsLowest}
 use Rattle.lp_rows.specs.Rows.{is_storable, ascends_from, has_zero, are_storable}
-use Rattle.block_tree.specs.Building.{has_small_parts, are_numbers, are_ids_below}
+use Rattle.block_tree.specs.Building.{has_small_parts, are_numbers}
 use Rattle.block_tree.specs.Scaling.{is_multiple, divides_all, all_divide, least_scale, are_positive, denominators, scale_of, scaled, scaled_terms, has_id, has_id_twice, insert_term, sorted_among, sorted_terms, stored_terms}
 use Rattle.block_tree.proofs.Multiples.{divides, is_divided, least_scale_is, least_scale_below}
 use Rattle.gdp_grammar.specs.Canonical.{terms_over}
-use Rattle.gdp_grammar.specs.Lowest.{greatest_divisor, common_divisor, signed_as, over}
+use Rattle.gdp_grammar.specs.Lowest.{common_divisor, signed_as, over}
 use Rattle.gdp_grammar.specs.Numerals as numerals
 use Rattle.gdp_grammar.proofs.Again.{both, and_true}
 use Rattle.gdp_grammar.proofs.Euclid.{common_divisor_is}
-use Rattle.gdp_grammar.proofs.Lowest.{greatest_is_gcd, signed_times, over_reduced}
+use Rattle.gdp_grammar.proofs.Lowest.{greatest_is_gcd, signed_times}
 
 -- what the divisor of a number and a scale is
 record IsDivisor (s : ℕ) (n : ℤ) (g : ℕ) : Type 0 where
@@ -205,6 +203,7 @@ not_below id least (t ∷ ts) l a =
   where
     other : (id least x : ℕ) → nat_lt id least ≡ true → nat_le least x ≡ true → (id == x) ≡ false
     other id least x p q = grind (arith, nat_tests)
+
     more : (id least x : ℕ) → nat_lt id least ≡ true → nat_le least x ≡ true → nat_lt id (suc x) ≡ true
     more id least x p q = grind (arith, nat_tests)
 

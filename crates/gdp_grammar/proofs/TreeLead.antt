@@ -1,13 +1,12 @@
 -- The lines of a block lead to a building that holds the block too.
-use Rattle.std.proofs.Common.{◌≡◌, ℕ, zero, suc, ◌+◌, ◌^◌, ◌<◌, ◌≤◌, ℤ, pos, Bool, true, false, ◌&&◌, ◌||◌, not, nat_lt, nat_le, ◌==◌, if◌then◌else◌, List, [], ◌∷◌, ◌++◌, length, map, take, drop, codes, Option, None, Some, Result, Ok, Err, refl, ap, sym, subst, ◌∙◌, append_assoc, append-nil, length-append, arith}
-use Rattle.std.specs.Prelude.{is_some, is_none}
-use Rattle.std.specs.List.{list_all, list_any}
+use Rattle.std.proofs.Common.{◌≡◌, ℕ, zero, suc, ◌+◌, ◌<◌, ◌≤◌, pos, Bool, true, false, ◌&&◌, ◌||◌, not, nat_lt, nat_le, ◌==◌, List, [], ◌∷◌, ◌++◌, length, map, take, drop, codes, Option, None, Some, Ok, refl, ap, sym, subst, ◌∙◌, append_assoc, append-nil, length-append, arith}
+use Rattle.std.specs.Prelude.{is_none}
+use Rattle.std.specs.List.{list_all}
 use Rattle.std.proofs.lemmas.Bool.Decides.{nat_tests}
 use Rattle.std.proofs.lemmas.List.{map-append}
-use Rattle.fractions.specs.Fraction as fraction
 use Rattle.lp_rows.specs.Holding.{ids_below}
 use Rattle.lp_rows.specs.Rows.{RowValue, row_refusal}
-use Rattle.block_tree.specs.Building.{BuildingValue, OpenBlock, OpenDisjunction, empty_block, is_empty, is_taken, rows_in_open, rows_in_opened, rows_around, rows_so_far, closed_block}
+use Rattle.block_tree.specs.Building.{BuildingValue, OpenBlock, OpenDisjunction, empty_block, is_empty, rows_so_far, closed_block}
 use Rattle.block_tree.specs.Names.{has_name, is_name}
 use Rattle.block_tree.specs.Nesting.{closed_disjunct, closed_disjunction}
 use Rattle.block_tree.specs.Sound.{are_names, are_rows_below, is_filled, is_block_sound, are_disjunctions_sound, are_disjuncts_sound, is_shallow, are_disjunctions_shallow, are_disjuncts_shallow, are_last_of}
@@ -22,10 +21,10 @@ use Rattle.gdp_grammar.specs.Lowest.{over}
 use Rattle.gdp_grammar.specs.Reading.{with_form, with_line}
 use Rattle.gdp_grammar.specs.Spelling.{Leads}
 use Rattle.gdp_grammar.proofs.Again.{both, and_true, is_printed, are_printed}
-use Rattle.gdp_grammar.proofs.FormsGiven.{AreWhole, CanAppend, row_given, row_whole, terms_fit, fit_over}
+use Rattle.gdp_grammar.proofs.FormsGiven.{row_given, row_whole, terms_fit, fit_over}
 use Rattle.gdp_grammar.proofs.LinesAgain.{row_form_again, disjunction_form_again, disjunct_form_again, end_form_again, summands_for, signed_for}
-use Rattle.gdp_grammar.proofs.LinesLead.{headed, line_lead, leads_then, leads_one, leads_to, row_printed, disjunction_printed, named_printed, words_appended}
-use Rattle.gdp_grammar.proofs.Rebuilt.{fit_short, name_within, terms_read, bytes_eq_swap}
+use Rattle.gdp_grammar.proofs.LinesLead.{headed, line_lead, leads_then, leads_to, row_printed, disjunction_printed, named_printed, words_appended}
+use Rattle.gdp_grammar.proofs.Rebuilt.{fit_short, terms_read, bytes_eq_swap}
 use Rattle.block_tree.proofs.Keeping.{has_append}
 use Rattle.std.specs.Str.{bytes_eq}
 
@@ -122,11 +121,12 @@ rows_lead m vs g bs o os line (r ∷ rs) ctx ids stored few =
     let i = both (ids_below (length m.vars) r.0.terms) (are_rows_below (length m.vars) rs) ids in
     let s = both (is_none (row_refusal r.0.terms r.0.right)) (are_rows_stored rs) stored in
     let next : OpenBlock = record o { rows = o.rows ++ (r.0, line) ∷ [] } in
-    let more : rows_so_far (in_block vs g bs next os) + length rs ≤ 1000 = omega (arith, few, length-append o.rows ((r.0, line) ∷ [])) in
-    (headed (in_block vs g bs next os),
-     row_lead m vs g bs o os line r ctx i.0 (no_refusal r.0 s.0) (omega (arith, few)),
-     leads_to (line + 1) (map (row_line m) rs) _ _ _ (rows_lead m vs g bs next os (line + 1) rs ctx i.1 s.1 more)
-        (ap (λ l. headed (in_block vs g bs (record o { rows = l }) os)) (append_assoc o.rows ((r.0, line) ∷ []) (rows_at (line + 1) rs))))
+    let more : rows_so_far (in_block vs g bs next os) + length rs ≤ 1000 = omega (arith, few, length-append o.rows ((r.0, line) ∷ [])) in (
+      headed (in_block vs g bs next os),
+      row_lead m vs g bs o os line r ctx i.0 (no_refusal r.0 s.0) (omega (arith, few)),
+      leads_to (line + 1) (map (row_line m) rs) _ _ _ (rows_lead m vs g bs next os (line + 1) rs ctx i.1 s.1 more)
+          (ap (λ l. headed (in_block vs g bs (record o { rows = l }) os)) (append_assoc o.rows ((r.0, line) ∷ []) (rows_at (line + 1) rs))),
+    )
 
 unmarked_length : (rs : List (RowValue × ℕ)) → length (unmarked_rows rs) ≡ length rs
 unmarked_length [] = refl
@@ -292,9 +292,9 @@ next_name m vs bs head heads ctx f =
     let within : n < length names = omega (arith, f.left, booleans_length m.booleans) in
     let whole : are_names (var_names m ++ (take n names ++ name_in names n ∷ drop (suc n) names)) ≡ true = ap (λ x. are_names (var_names m ++ x)) (sym (split_at names n within)) ∙ ctx.differ in
     let new_is : (has_name (name_in names n) (map (λ (v : VarValue). v.0) vs) || has_name (name_in names n) (map (λ (b : BooleanValue). b.0) bs)) ≡ false =
-        ap (λ x. has_name (name_in names n) x || has_name (name_in names n) (map (λ (b : BooleanValue). b.0) bs)) ctx.vars
-        ∙ ap (λ x. has_name (name_in names n) (var_names m) || has_name (name_in names n) x) f.names
-        ∙ fresh (var_names m) (take n names) (name_in names n) (drop (suc n) names) whole in
+    ap (λ x. has_name (name_in names n) x || has_name (name_in names n) (map (λ (b : BooleanValue). b.0) bs)) ctx.vars
+    ∙ ap (λ x. has_name (name_in names n) (var_names m) || has_name (name_in names n) x) f.names
+    ∙ fresh (var_names m) (take n names) (name_in names n) (drop (suc n) names) whole in
     let name_is : is_name (name_in names n) ≡ true = name_among (var_names m ++ take n names) (name_in names n) (drop (suc n) names) (ap are_names (append_assoc (var_names m) (take n names) (name_in names n ∷ drop (suc n) names)) ∙ whole) in
     let few_is : nat_le 200 n ≡ false = few n (omega (arith, f.left, ctx.few)) in
     subst (λ i. IsNext m vs bs (name_in names i)) (sym is) (record { name_is = name_is; new = new_is; few = few_is })
@@ -305,7 +305,7 @@ next_name m vs bs head heads ctx f =
 enter_lead : (m : ModelTree) (vs : List VarValue) (g : Option GoalValue) (bs : List BooleanValue) (o : OpenBlock) (d : OpenDisjunction) (os : List (OpenBlock × OpenDisjunction)) (line indicator : ℕ)
     → IsNext m vs bs (name_in (boolean_names m) indicator) → nat_le 8 (length os) ≡ false
     → with_line (headed (in_disjunction vs g bs o d os)) line (disjunct_line m indicator)
-      ≡ Ok (headed (in_block vs g (bs ++ (name_in (boolean_names m) indicator, line) ∷ []) (empty_block (length bs) line) ((o, d) ∷ os)))
+    ≡ Ok (headed (in_block vs g (bs ++ (name_in (boolean_names m) indicator, line) ∷ []) (empty_block (length bs) line) ((o, d) ∷ os)))
 enter_lead m vs g bs o d os line indicator next shallow =
     let name : List ℕ = name_in (boolean_names m) indicator in
     line_lead (in_disjunction vs g bs o d os) (in_block vs g (bs ++ (name, line) ∷ []) (empty_block (length bs) line) ((o, d) ∷ os)) line (disjunct_line m indicator) (Disjunct name)
@@ -356,11 +356,13 @@ disjunctions_step m vs g bs o os line after head js ds later at filled r t =
     let o' : OpenBlock = with_closed o (opened_at line head) r.closed in
     let x : DisjunctionTree = closed_disjunction d in
     let rest : Leads after (headed (in_disjunction vs g (bs ++ r.more) o d os)) (codes "end" ∷ disjunctions_lines m ds)
-        (headed (in_block vs g ((bs ++ r.more) ++ t.more) (record o' { closed = o'.closed ++ t.closed }) os)) =
-        (headed (in_block vs g (bs ++ r.more) o' os), close_lead vs g (bs ++ r.more) o d os after (not_empty r.closed js r.same filled), t.leads) in
-    let whole : Leads line (headed (in_block vs g bs o os)) (disjunctions_lines m (disjunction head js ds)) (headed (in_block vs g ((bs ++ r.more) ++ t.more) (record o' { closed = o'.closed ++ t.closed }) os)) =
-        (headed (in_disjunction vs g bs o (opened_at line head) os), open_lead vs g bs o os line head,
-         leads_then (line + 1) after (disjuncts_lines m js) (codes "end" ∷ disjunctions_lines m ds) _ _ _ at r.leads rest) in
+    (headed (in_block vs g ((bs ++ r.more) ++ t.more) (record o' { closed = o'.closed ++ t.closed }) os)) =
+    (headed (in_block vs g (bs ++ r.more) o' os), close_lead vs g (bs ++ r.more) o d os after (not_empty r.closed js r.same filled), t.leads) in
+    let whole : Leads line (headed (in_block vs g bs o os)) (disjunctions_lines m (disjunction head js ds)) (headed (in_block vs g ((bs ++ r.more) ++ t.more) (record o' { closed = o'.closed ++ t.closed }) os)) = (
+      headed (in_disjunction vs g bs o (opened_at line head) os),
+      open_lead vs g bs o os line head,
+      leads_then (line + 1) after (disjuncts_lines m js) (codes "end" ∷ disjunctions_lines m ds) _ _ _ at r.leads rest,
+    ) in
     record {
       more = r.more ++ t.more;
       closed = x ∷ t.closed;
@@ -394,11 +396,13 @@ disjuncts_step m vs g bs o d os line after head b js later at next shallow is k 
     let i : OpenBlock = inside_at line bs k.rows k.closed in
     let d' : OpenDisjunction = with_disjunct_closed d i in
     let rest : Leads after (headed (in_block vs g (bs1 ++ k.more) i ((o, d) ∷ os))) (codes "end" ∷ disjuncts_lines m js)
-        (headed (in_disjunction vs g ((bs1 ++ k.more) ++ t.more) o (record d' { closed = d'.closed ++ t.closed }) os)) =
-        (headed (in_disjunction vs g (bs1 ++ k.more) o d' os), leave_lead vs g (bs1 ++ k.more) i o d os after, t.leads) in
-    let whole : Leads line (headed (in_disjunction vs g bs o d os)) (disjuncts_lines m (disjunct head b js)) (headed (in_disjunction vs g ((bs1 ++ k.more) ++ t.more) o (record d' { closed = d'.closed ++ t.closed }) os)) =
-        (headed (in_block vs g bs1 (empty_block (length bs) line) ((o, d) ∷ os)), enter_lead m vs g bs o d os line head.indicator next shallow,
-         leads_then (line + 1) after (block_lines m b) (codes "end" ∷ disjuncts_lines m js) _ _ _ at k.leads rest) in
+    (headed (in_disjunction vs g ((bs1 ++ k.more) ++ t.more) o (record d' { closed = d'.closed ++ t.closed }) os)) =
+    (headed (in_disjunction vs g (bs1 ++ k.more) o d' os), leave_lead vs g (bs1 ++ k.more) i o d os after, t.leads) in
+    let whole : Leads line (headed (in_disjunction vs g bs o d os)) (disjuncts_lines m (disjunct head b js)) (headed (in_disjunction vs g ((bs1 ++ k.more) ++ t.more) o (record d' { closed = d'.closed ++ t.closed }) os)) = (
+      headed (in_block vs g bs1 (empty_block (length bs) line) ((o, d) ∷ os)),
+      enter_lead m vs g bs o d os line head.indicator next shallow,
+      leads_then (line + 1) after (block_lines m b) (codes "end" ∷ disjuncts_lines m js) _ _ _ at k.leads rest,
+    ) in
     let grouped : (bs1 ++ k.more) ++ t.more ≡ bs ++ (x ∷ (k.more ++ t.more)) = append_assoc bs1 k.more t.more ∙ append_assoc bs (x ∷ []) (k.more ++ t.more) in
     record {
       more = x ∷ (k.more ++ t.more);
@@ -470,7 +474,7 @@ mutual
       let after : ℕ = line + 1 + length (disjuncts_lines m js) in
       let x : DisjunctionTree = closed_disjunction (record d { closed = r.closed }) in
       let few : rows_so_far (in_block vs g (bs ++ r.more) (with_closed o d r.closed) os) + row_count_below ds ≤ 1000 =
-          omega (arith, rows, below_appended o.closed (x ∷ []), within_same (disjuncts r.closed) js r.same) in
+      omega (arith, rows, below_appended o.closed (x ∷ []), within_same (disjuncts r.closed) js r.same) in
       let t = disjunctions_lead m vs g (bs ++ r.more) (with_closed o d r.closed) os (after + 1) ds later ctx r.firsts few h.1 s.1 w.1 in
       disjunctions_step m vs g bs o os line after head js ds later refl q.0 r t
 
@@ -498,6 +502,6 @@ mutual
       let after : ℕ = line + 1 + length (block_lines m b) in
       let i : OpenBlock = inside_at line bs k.rows k.closed in
       let few : rows_so_far (in_disjunction vs g (bs1 ++ k.more) o (with_disjunct_closed d i) os) + row_count_within js ≤ 1000 =
-          omega (arith, rows, within_appended d.closed (closed_disjunct i ∷ []), block_count_same (closed_block i) b k.same) in
+      omega (arith, rows, within_appended d.closed (closed_disjunct i ∷ []), block_count_same (closed_block i) b k.same) in
       let t = disjuncts_lead m vs g (bs1 ++ k.more) o (with_disjunct_closed d i) os (after + 1) js later ctx k.firsts few h.1 s.1 w.1 in
       disjuncts_step m vs g bs o d os line after head b js later refl (next_name m vs bs head heads ctx f) (eight (length os) e.0) (first_is m bs head heads f) k t

@@ -69,7 +69,7 @@ mutual
 
 free_with : (id : ℕ) (ids : List ℕ) (b : BooleanValue) (bs : List BooleanValue) (t : Bool) → map boolean_line (free_from (id + 1) ids (unmarked_booleans bs)) ≡ map boolean_line (free_from (id + 1) ids bs)
     → map boolean_line (if t then free_from (id + 1) ids (unmarked_booleans bs) else (b.0, 0) ∷ free_from (id + 1) ids (unmarked_booleans bs))
-      ≡ map boolean_line (if t then free_from (id + 1) ids bs else b ∷ free_from (id + 1) ids bs)
+    ≡ map boolean_line (if t then free_from (id + 1) ids bs else b ∷ free_from (id + 1) ids bs)
 free_with id ids b bs true below = below
 free_with id ids b bs false below = ap (λ l. boolean_line b ∷ l) below
 
@@ -85,7 +85,7 @@ pub lines_same : (m : ModelTree) → canonical_lines (unmarked m) ≡ canonical_
 lines_same m =
     let names : HaveNames m (unmarked m) = record { vars = var_names_same m.vars; booleans = boolean_names_same m.booleans } in
     let free : map boolean_line (free_booleans (unmarked m)) ≡ map boolean_line (free_booleans m) =
-        ap (λ ids. map boolean_line (free_from 0 ids (unmarked_booleans m.booleans))) (below_same m.root) ∙ free_same 0 (indicators m.root) m.booleans in
+    ap (λ ids. map boolean_line (free_from 0 ids (unmarked_booleans m.booleans))) (below_same m.root) ∙ free_same 0 (indicators m.root) m.booleans in
     let goal : goal_line (unmarked m) ≡ goal_line m = rw (var_names_same m.vars) refl in
     ap (λ l. codes "gdp 1" ∷ (l ++ (map boolean_line (free_booleans (unmarked m)) ++ goal_line (unmarked m) ∷ block_lines (unmarked m) (unmarked_block m.root)))) (vars_same m.vars)
     ∙ ap (λ l. codes "gdp 1" ∷ (map var_line m.vars ++ (l ++ goal_line (unmarked m) ∷ block_lines (unmarked m) (unmarked_block m.root)))) free

@@ -13,7 +13,7 @@ use Rattle.lp_rows.specs.Rows.{RowValue}
 use Rattle.block_tree.specs.declared.tree.Mode.{Mode}
 use Rattle.block_tree.specs.declared.tree.Mode.TheVariants.{Xor, Or}
 use Rattle.block_tree.specs.Tree.{DisjunctHead, BlockTree, block, Disjunctions, no_disjunctions, disjunction, Disjuncts, no_disjuncts, disjunct, below}
-use Rattle.block_tree.specs.Values.{GoalValue, ModelTree}
+use Rattle.block_tree.specs.Values.{ModelTree}
 use Rattle.block_tree.specs.Variables.{VarValue, BooleanValue}
 use Rattle.block_tree.specs.View.{DisjunctTree, DisjunctionTree}
 use Rattle.gdp_grammar.specs.Lowest.{over}
