@@ -1,0 +1,4 @@
+pub mod Completed
+pub mod Connectives
+pub mod Layers
+pub mod Settled
