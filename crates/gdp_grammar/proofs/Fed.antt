@@ -1,10 +1,10 @@
 -- The lines of a text that comes in pieces.
-use Rattle.std.proofs.Common.{◌≡◌, ℕ, ◌<◌, Bool, true, false, eqb, ◌&&◌, ◌||◌, if◌then◌else◌, List, [], ◌∷◌, ◌++◌, length, refl, ap, sym, ◌∙◌, inl, inr, arith}
+use Rattle.std.proofs.Common.{◌≡◌, ℕ, Bool, true, false, eqb, ◌&&◌, ◌||◌, List, [], ◌∷◌, ◌++◌, refl, ap, sym, ◌∙◌, inl, inr, arith}
 use Rattle.std.specs.Prelude.{flat_map}
 use Rattle.std.proofs.lemmas.Bool.{cond-true, cond-false}
 use Rattle.std.proofs.lemmas.List.{append_assoc, append-nil}
 use Rattle.gdp_grammar.specs.Feeding.{has_newline, ended_part, left_over, whole_lines, lines_in_pieces, WholeAndLeft, PieceAddsLines, PieceLeavesOver, AnyPieces}
-use Rattle.gdp_grammar.specs.Lines.{lines_of, newline_next, onto_first}
+use Rattle.gdp_grammar.specs.Lines.{lines_of, onto_first}
 use Rattle.gdp_grammar.proofs.Cutting.{told, some_line, lines_newline, lines_return, lines_other}
 
 -- with a newline, and without one

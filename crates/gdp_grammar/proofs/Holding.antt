@@ -1,5 +1,5 @@
 -- What a builder holds before a line is what the lines before it own.
-use Rattle.std.proofs.Common.{◌≡◌, ℕ, zero, suc, ◌<◌, ◌≤◌, Bool, true, false, List, [], ◌∷◌, ◌++◌, drop, Option, Some, None, is_some, refl, ap, sym, subst, ◌∙◌, ◌⊎◌, inl, inr, arith}
+use Rattle.std.proofs.Common.{◌≡◌, ℕ, zero, suc, ◌<◌, true, false, List, [], ◌∷◌, ◌++◌, Option, Some, None, is_some, refl, ap, sym, subst, ◌∙◌, ◌⊎◌, inl, inr, arith}
 use Rattle.std.proofs.lemmas.List.{append-nil}
 use Rattle.lp_rows.specs.Rows.{RowValue}
 use Rattle.block_tree.specs.declared.tree.Mode.{Mode}
@@ -7,11 +7,11 @@ use Rattle.block_tree.specs.Building.{OpenBlock, OpenDisjunction, empty_block, c
 use Rattle.block_tree.specs.Nesting.{closed_disjunct, closed_disjunction}
 use Rattle.block_tree.specs.View.{disjuncts, disjunctions}
 use Rattle.gdp_grammar.specs.Nested.{row_marks, disjunction_marks, disjunct_marks, IsBlockOf}
-use Rattle.gdp_grammar.specs.Stacks.{open_after, open_before, first_of, owner, same_owner, owned}
+use Rattle.gdp_grammar.specs.Stacks.{open_after, open_before, first_of, same_owner, owned}
 use Rattle.gdp_grammar.specs.Owners.{LineKind, RowLine, DisjunctionLine, DisjunctLine, EndLine, OtherLine, Kinds, is_row, is_disjunction, is_disjunct, is_end, depth, IsNested}
 use Rattle.gdp_grammar.proofs.NestedTrees.{owns, disjunctions_nested}
 use Rattle.gdp_grammar.proofs.Owned.{some_depth}
-use Rattle.gdp_grammar.proofs.Owning.{Has, same_self, other_below, Keeps, keep_kind, keep_owner, adds_row, adds_disjunction, adds_disjunct, Descends, descends, descends_more, new_owner, Gone, gone_now, DisjunctionsStand, DisjunctsStand, disjunctions_later, disjuncts_later, disjunctions_push, disjuncts_push, disjunction_marks_push, disjunct_marks_push, row_marks_push}
+use Rattle.gdp_grammar.proofs.Owning.{Has, same_self, other_below, Keeps, keep_kind, keep_owner, adds_row, adds_disjunction, adds_disjunct, Descends, descends, descends_more, new_owner, gone_now, DisjunctionsStand, DisjunctsStand, disjunctions_later, disjuncts_later, disjunctions_push, disjuncts_push, disjunction_marks_push, disjunct_marks_push, row_marks_push}
 
 -- an open block has what its owner has, where a disjunction that is open in it is pending
 abbrev pub BlockHolds : Kinds → ℕ → OpenBlock → Option ℕ → List ℕ → Type 0

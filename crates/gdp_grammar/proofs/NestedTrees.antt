@@ -1,8 +1,8 @@
 -- A tree that is closed is nested as the lines are.
-use Rattle.std.proofs.Common.{◌≡◌, ℕ, Bool, List, [], Option, Some, subst}
+use Rattle.std.proofs.Common.{ℕ, List, [], Option, Some, subst}
 use Rattle.block_tree.specs.Tree.{BlockTree, block, Disjunctions, no_disjunctions, disjunction, Disjuncts, no_disjuncts, disjunct}
 use Rattle.gdp_grammar.specs.Nested.{AreOwned, Owns, row_marks, disjunction_marks, disjunct_marks, IsBlockOf, AreDisjunctionsOf, AreDisjunctsOf}
-use Rattle.gdp_grammar.specs.Owners.{LineKind, Kinds, is_row, is_disjunction, is_disjunct, IsNested}
+use Rattle.gdp_grammar.specs.Owners.{Kinds, is_row, is_disjunction, is_disjunct, IsNested}
 use Rattle.gdp_grammar.proofs.OwnedLines.{owned_found}
 use Rattle.gdp_grammar.proofs.Owning.{Has, BlockStands, DisjunctionsStand, DisjunctsStand}
 

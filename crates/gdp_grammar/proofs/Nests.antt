@@ -1,5 +1,5 @@
 -- A model that a text spells is nested as the lines of the text are.
-use Rattle.std.proofs.Common.{◌≡◌, ℕ, zero, suc, ◌+◌, Bool, true, false, eqb, not, ◌&&◌, ◌||◌, if◌then◌else◌, List, [], ◌∷◌, ◌++◌, length, get_or, Option, Some, None, is_some, is_none, Result, Ok, Err, refl, ap, sym, subst, ◌∙◌, ◌⊎◌, inl, inr, arith, codes}
+use Rattle.std.proofs.Common.{◌≡◌, ℕ, suc, ◌+◌, Bool, true, false, eqb, not, ◌&&◌, ◌||◌, if◌then◌else◌, List, [], ◌∷◌, ◌++◌, length, get_or, Option, Some, None, is_some, is_none, Ok, refl, ap, sym, subst, ◌∙◌, arith, codes}
 use Rattle.std.specs.Prelude.{bytes_eq}
 use Rattle.std.proofs.lemmas.Bool.{cond-true, cond-false}
 use Rattle.std.proofs.lemmas.Bool.Decides.{nat_tests}
@@ -12,8 +12,7 @@ use Rattle.lp_rows.specs.Rows.{RowValue}
 use Rattle.block_tree.specs.declared.bounds.Bound.{Bound}
 use Rattle.block_tree.specs.declared.errors.BuildError.{BuildError}
 use Rattle.block_tree.specs.declared.errors.BuildError.TheVariants as refusal
-use Rattle.block_tree.specs.declared.tree.Mode.{Mode}
-use Rattle.block_tree.specs.Building.{BuildingValue, OpenBlock, OpenDisjunction, empty_block, is_empty, is_at_root, is_taken, refusal_of_var, refusal_of_row, refusal_of_finish, stored_row, closed_block, built_model}
+use Rattle.block_tree.specs.Building.{BuildingValue, OpenBlock, OpenDisjunction, empty_block, is_empty, is_at_root, is_taken, refusal_of_var, refusal_of_row, stored_row, built_model}
 use Rattle.block_tree.specs.Nesting.{refusal_of_boolean, refusal_of_goal, stored_goal, refusal_of_disjunct, with_disjunct, open_disjunct_in, closed_disjunct, closed_disjunction, close_disjunct, close_opened}
 use Rattle.block_tree.specs.Values.{ModelTree}
 use Rattle.gdp_grammar.specs.declared.cause.ReadCause.{ReadCause}
@@ -24,14 +23,13 @@ use Rattle.gdp_grammar.specs.Classes.{belongs, front, rest}
 use Rattle.gdp_grammar.specs.Declaring.{form_on}
 use Rattle.gdp_grammar.specs.Forms.{Form, Var, Boolean, Goal, Row, Disjunction, Disjunct, End, Signed, Summand, form_of, is_logic}
 use Rattle.gdp_grammar.specs.Lines.{lines_of, without_comment}
-use Rattle.gdp_grammar.specs.Nested.{IsBlockOf, IsNestedAs, NestedAsSpelled}
+use Rattle.gdp_grammar.specs.Nested.{IsBlockOf, NestedAsSpelled}
 use Rattle.gdp_grammar.specs.Numerals.{value_of}
-use Rattle.gdp_grammar.specs.Owners.{Kinds, OtherLine, kind_in, kinds_from, kinds_of, IsNested}
+use Rattle.gdp_grammar.specs.Owners.{Kinds, OtherLine, kind_in, kinds_from, kinds_of}
 use Rattle.gdp_grammar.specs.Reading.{Taken, nothing_taken, or_cause, end_of, after_call, with_var, terms_of, constant_value, with_goal, with_row, with_form, is_header, with_header, with_tokens, with_content, with_line, finished, model_after}
 use Rattle.gdp_grammar.specs.Spelling.{Leads}
 use Rattle.gdp_grammar.specs.Tokens.{Piece, token_of, tokens_of}
 use Rattle.gdp_grammar.specs.Words.{words_of}
-use Rattle.gdp_grammar.proofs.Cutting.{told}
 use Rattle.gdp_grammar.proofs.Holding.{Holds, holds_nothing, other_holds, row_holds, disjunction_holds, disjunct_holds, choice_ends, block_ends, root_nested}
 use Rattle.gdp_grammar.proofs.Pieces.{no_tokens, first_token, no_words, first_word}
 use Rattle.gdp_grammar.proofs.Sums.{bind_ok}

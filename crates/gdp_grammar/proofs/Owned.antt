@@ -1,7 +1,7 @@
 -- The owner of a line.
-use Rattle.std.proofs.Common.{◌≡◌, ℕ, zero, suc, ◌-◌, ◌<◌, ◌≤◌, Bool, true, false, if◌then◌else◌, List, [], ◌∷◌, drop, Option, Some, None, refl, ap, sym, subst, ◌∙◌, ◌⊎◌, inl, inr, arith}
+use Rattle.std.proofs.Common.{◌≡◌, ℕ, zero, suc, ◌<◌, ◌≤◌, Bool, true, false, List, [], ◌∷◌, Option, Some, None, refl, ap, sym, subst, ◌∙◌, ◌⊎◌, inl, inr, arith}
 use Rattle.std.proofs.lemmas.Bool.{cond-true, cond-false}
-use Rattle.gdp_grammar.specs.Stacks.{open_after, open_before, first_of, owner, OwnerFound}
+use Rattle.gdp_grammar.specs.Stacks.{open_after, open_before, first_of, OwnerFound}
 use Rattle.gdp_grammar.specs.Owners.{LineKind, RowLine, DisjunctionLine, DisjunctLine, EndLine, OtherLine, Kinds, opens, is_end, count_before, depth, IsClosed, AllClosed, IsOwner, IsNested, OneOwner}
 
 -- less, equal or greater

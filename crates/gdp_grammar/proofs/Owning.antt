@@ -1,5 +1,5 @@
 -- What an owner has before a line and after it.
-use Rattle.std.proofs.Common.{◌≡◌, ℕ, zero, suc, ◌<◌, ◌≤◌, Bool, true, false, eqb, ◌&&◌, if◌then◌else◌, List, [], ◌∷◌, ◌++◌, drop, Option, Some, None, refl, ap, sym, subst, ◌∙◌, arith}
+use Rattle.std.proofs.Common.{◌≡◌, ℕ, zero, suc, ◌<◌, ◌≤◌, Bool, true, false, eqb, ◌&&◌, List, [], ◌∷◌, ◌++◌, Option, Some, None, refl, ap, sym, subst, ◌∙◌, arith}
 use Rattle.std.proofs.lemmas.Bool.{cond-true, cond-false}
 use Rattle.std.proofs.lemmas.Bool.Decides.{nat_tests}
 use Rattle.std.proofs.lemmas.List.{append-nil}
@@ -7,7 +7,7 @@ use Rattle.lp_rows.specs.Rows.{RowValue}
 use Rattle.block_tree.specs.Tree.{BlockTree, block, Disjunctions, no_disjunctions, disjunction, Disjuncts, no_disjuncts, disjunct}
 use Rattle.block_tree.specs.View.{DisjunctTree, DisjunctionTree, disjuncts, disjunctions}
 use Rattle.gdp_grammar.specs.Nested.{row_marks, disjunction_marks, disjunct_marks}
-use Rattle.gdp_grammar.specs.Stacks.{open_after, open_before, first_of, owner, same_owner, owned_line, owned}
+use Rattle.gdp_grammar.specs.Stacks.{open_after, open_before, first_of, owner, same_owner, owned}
 use Rattle.gdp_grammar.specs.Owners.{LineKind, RowLine, DisjunctionLine, DisjunctLine, EndLine, OtherLine, Kinds, is_row, is_disjunction, is_disjunct}
 
 and_left : (a b : Bool) → a ≡ false → (a && b) ≡ false

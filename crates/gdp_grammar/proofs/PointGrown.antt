@@ -1,6 +1,6 @@
 -- What the lines of a point text add to the point.
-use Rattle.std.proofs.Common.{◌≡◌, ◌≢◌, ℕ, zero, suc, ◌<◌, ℤ, pos, Bool, true, false, eqb, not, ◌&&◌, ◌||◌, List, [], ◌∷◌, map, replicate, length, get_or, set, codes, Option, Some, None, is_some, Result, Ok, Err, refl, ap, sym, subst, ◌∙◌, ◌⊎◌, inl, inr, arith, if◌then◌else◌}
-use Rattle.std.specs.Prelude.{position, bytes_eq}
+use Rattle.std.proofs.Common.{◌≡◌, ◌≢◌, ℕ, zero, suc, ◌<◌, ℤ, pos, Bool, true, false, eqb, not, ◌&&◌, ◌||◌, List, [], ◌∷◌, map, replicate, length, get_or, set, codes, Option, Some, None, is_some, Result, Ok, Err, refl, ap, sym, subst, ◌∙◌, ◌⊎◌, inl, inr, arith}
+use Rattle.std.specs.Prelude.{bytes_eq}
 use Rattle.std.specs.List.{list_all}
 use Rattle.std.proofs.lemmas.Bool.{cond-true, cond-false}
 use Rattle.std.proofs.lemmas.Bool.Decides.{nat_tests}
@@ -14,10 +14,10 @@ use Rattle.gdp_grammar.specs.declared.cause.ReadCause.TheVariants as cause
 use Rattle.gdp_grammar.specs.Causes.{refuse_if}
 use Rattle.gdp_grammar.specs.LineGrammars.{LeadsBy}
 use Rattle.gdp_grammar.specs.Lines.{lines_of, without_comment}
-use Rattle.gdp_grammar.specs.PointDeclaring.{point_form_on, HasLine, IsLaidOutPoint, LaidOutPoint}
+use Rattle.gdp_grammar.specs.PointDeclaring.{point_form_on, HasLine, LaidOutPoint}
 use Rattle.gdp_grammar.specs.PointForms.{Integer, PointForm, Over, Val, On, End, form_of_two, point_form_of}
 use Rattle.gdp_grammar.specs.PointReading.{PointTaken, no_point_taken, variable_at, boolean_at, has_number, is_on, has_line, integer_value, over_value, takes_names, with_over, with_val, with_on, with_end, with_point_form, with_point_header, with_point_words, with_point_line, with_first, all_numbers, point_after}
-use Rattle.gdp_grammar.specs.Points.{point_grammar, SpellsPoint}
+use Rattle.gdp_grammar.specs.Points.{point_grammar}
 use Rattle.gdp_grammar.specs.Reading.{or_cause}
 use Rattle.gdp_grammar.specs.Words.{words_of, are_words}
 use Rattle.gdp_grammar.proofs.Sums.{bind_ok}

@@ -1,15 +1,14 @@
 -- Each name has at most one line in a text that spells a point.
-use Rattle.std.proofs.Common.{◌≡◌, ℕ, ℤ, Bool, true, false, not, ◌||◌, List, [], ◌∷◌, ◌++◌, length, get_or, codes, Option, Some, None, is_some, Result, Ok, Err, refl, ap, sym, subst, ◌∙◌, ◌⊎◌, inl, inr}
+use Rattle.std.proofs.Common.{◌≡◌, ℕ, ℤ, Bool, true, false, not, ◌||◌, List, [], ◌∷◌, ◌++◌, length, codes, Option, None, is_some, Ok, refl, ap, sym, subst, ◌∙◌, inl, inr}
 use Rattle.std.proofs.lemmas.Bool.{cond-true, cond-false}
 use Rattle.std.proofs.lemmas.List.{length-replicate}
 use Rattle.block_tree.specs.Values.{ModelTree}
-use Rattle.gdp_grammar.specs.declared.cause.ReadCause.{ReadCause}
 use Rattle.gdp_grammar.specs.declared.cause.ReadCause.TheVariants as cause
 use Rattle.gdp_grammar.specs.Causes.{refuse_if}
 use Rattle.gdp_grammar.specs.LineGrammars.{LeadsBy}
-use Rattle.gdp_grammar.specs.Lines.{lines_of, without_comment}
+use Rattle.gdp_grammar.specs.Lines.{without_comment}
 use Rattle.gdp_grammar.specs.PointDeclaring.{point_form_on, HasLine, IsLineOn, HasLineOn, OneLineEach}
-use Rattle.gdp_grammar.specs.PointForms.{Integer, PointForm, Over, Val, On, End, point_form_of}
+use Rattle.gdp_grammar.specs.PointForms.{Integer, PointForm, Val, On, point_form_of}
 use Rattle.gdp_grammar.specs.PointReading.{PointTaken, no_point_taken, variable_at, boolean_at, has_number, is_on, has_line, takes_names, with_val, with_on, with_point_form, with_point_header, with_point_words, with_point_line}
 use Rattle.gdp_grammar.specs.Points.{point_grammar}
 use Rattle.gdp_grammar.specs.Words.{words_of, are_words}

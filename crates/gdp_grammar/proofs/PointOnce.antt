@@ -1,7 +1,6 @@
 -- A text spells at most one point of a model, or has one first bad line, and never both.
 use Rattle.std.proofs.Common.{◌≡◌, ℕ, Bool, List, Result, Ok, Err, refl, ap, sym, ◌∙◌, ◌⊎◌, inl, inr}
 use Rattle.lp_rows.specs.Points.{PointValue}
-use Rattle.block_tree.specs.Values.{ModelTree}
 use Rattle.gdp_grammar.specs.declared.cause.ReadCause.{ReadCause}
 use Rattle.gdp_grammar.specs.LineGrammars.{given_by}
 use Rattle.gdp_grammar.specs.PointLaws.{OnePoint, PointOrBad, NeverPointAndBad, OneFirstBadOfPoint}

@@ -1,8 +1,8 @@
 -- What the lines of a text give is what the text spells, for every grammar of lines.
-use Rattle.std.proofs.Common.{◌≡◌, ℕ, ◌+◌, List, [], ◌∷◌, ◌++◌, length, Result, Ok, Err, refl, ap, sym, ◌∙◌, ◌⊎◌, inl, inr, subst, arith}
+use Rattle.std.proofs.Common.{◌≡◌, ℕ, ◌+◌, List, [], ◌∷◌, ◌++◌, length, Result, Ok, Err, refl, ap, sym, ◌∙◌, inl, inr, subst, arith}
 use Rattle.gdp_grammar.specs.declared.cause.ReadCause.{ReadCause}
 use Rattle.gdp_grammar.specs.Following.{at_line, then_on}
-use Rattle.gdp_grammar.specs.LineGrammars.{LineGrammar, LeadsBy, SpellsBy, IsBadLineBy, IsBadEndBy, IsFirstBadBy, follow_by, given_by}
+use Rattle.gdp_grammar.specs.LineGrammars.{LineGrammar, LeadsBy, SpellsBy, IsFirstBadBy, follow_by, given_by}
 use Rattle.gdp_grammar.specs.Lines.{lines_of}
 
 -- lines that lead on are followed

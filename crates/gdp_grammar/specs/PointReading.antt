@@ -1,5 +1,5 @@
 -- What a line of a point text adds to what the lines before it gave, or the cause against it.
-use Rattle.std.specs.Prelude.{ℕ, ℤ, pos, neg_ℤ, Bool, true, false, not, ◌&&◌, ◌||◌, List, [], ◌∷◌, map, replicate, length, get_or, set, Option, None, Some, is_some, Result, Ok, Err, if◌then◌else◌, int_lt, codes, position, bytes_eq}
+use Rattle.std.specs.Prelude.{ℕ, ℤ, pos, neg_ℤ, Bool, true, false, not, ◌&&◌, ◌||◌, List, [], ◌∷◌, map, replicate, length, get_or, set, Option, None, Some, is_some, Result, Ok, if◌then◌else◌, int_lt, codes, position, bytes_eq}
 use Rattle.std.specs.List.{list_all}
 use Rattle.fractions.specs.Width.{fits}
 use Rattle.lp_rows.specs.Points.{PointValue}
