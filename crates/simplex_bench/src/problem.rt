@@ -2,6 +2,9 @@
 //! goal's terms. Terms are their count and then the column and the coefficient of each. All are whole numbers between
 //! white space, and the ends of lines count as white space.
 
+ghost use Rattle.std.specs.Prelude.{◌≡◌};
+ghost use Rattle.simplex_bench.specs.declared.problem.BadProblem.{BadProblem};
+
 use fractions::Memory;
 use lp_frame::{AtMost, AtMostList, Force, StandardForm, bounded, standard};
 use lp_rows::{Col, ColList, Kind, Sign, Terms};
@@ -20,7 +23,7 @@ pub enum BadProblem {
 }
 
 impl From<Memory> for BadProblem {
-    ghost from_gives = { λ _ _. Unit {0} };
+    ghost from_gives = { λ _ problem. problem ≡ BadProblem.Memory };
 
     fn from(_error: Memory) -> BadProblem {
         BadProblem::Memory
@@ -28,7 +31,7 @@ impl From<Memory> for BadProblem {
 }
 
 impl<T: Drop> From<AllocFailed<T>> for BadProblem {
-    ghost from_gives = { λ _ _. Unit {0} };
+    ghost from_gives = { λ _ problem. problem ≡ BadProblem.Memory };
 
     fn from(_refused: AllocFailed<T>) -> BadProblem {
         BadProblem::Memory
@@ -36,7 +39,7 @@ impl<T: Drop> From<AllocFailed<T>> for BadProblem {
 }
 
 impl From<io::Error> for BadProblem {
-    ghost from_gives = { λ _ _. Unit {0} };
+    ghost from_gives = { λ _ problem. problem ≡ BadProblem.Refused };
 
     fn from(_error: io::Error) -> BadProblem {
         BadProblem::Refused
@@ -44,7 +47,7 @@ impl From<io::Error> for BadProblem {
 }
 
 impl From<ParseIntError> for BadProblem {
-    ghost from_gives = { λ _ _. Unit {0} };
+    ghost from_gives = { λ _ problem. problem ≡ BadProblem.Refused };
 
     fn from(_error: ParseIntError) -> BadProblem {
         BadProblem::Refused
@@ -52,7 +55,7 @@ impl From<ParseIntError> for BadProblem {
 }
 
 impl From<TryFromIntError> for BadProblem {
-    ghost from_gives = { λ _ _. Unit {0} };
+    ghost from_gives = { λ _ problem. problem ≡ BadProblem.Refused };
 
     fn from(_error: TryFromIntError) -> BadProblem {
         BadProblem::Refused

@@ -1,5 +1,8 @@
 //! One run of a standard form by Bland's rule.
 
+ghost use Rattle.std.specs.Prelude.{IfOk};
+ghost use Rattle.simplex_bench.specs.Replays.{IsReplay};
+
 use exact_simplex::{Log, Outcome, Tableau};
 use fractions::Memory;
 use lp_frame::StandardForm;
@@ -18,7 +21,9 @@ pub struct Replayed {
 }
 
 /// Makes Bland's moves from the slack basis to the end.
-pub fn replay(alloc: Global, form: &StandardForm) -> Result<Replayed, Memory> {
+pub fn replay(alloc: Global, form: &StandardForm) -> Result<Replayed, Memory>
+    ensures { IfOk result (λ replayed. IsReplay form.now MOST replayed.log.events replayed.outcome) }
+{
     let mut tableau = Tableau::make(alloc, form)?;
     let mut log = Log::new(alloc, MOST)?;
     let mut steps = MOST;
