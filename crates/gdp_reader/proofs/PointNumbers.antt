@@ -1,7 +1,7 @@
 -- The numbers of a point, one after the other.
 use Rattle.std.proofs.Common.{◌≡◌, List, [], ◌∷◌, ◌++◌, Option, Some, None, ℤ, refl, ap, sym}
 use Rattle.std.proofs.lemmas.List.{append_assoc}
-use Rattle.gdp_grammar.specs.PointReading.{with_first, all_numbers}
+use Rattle.gdp_grammar.specs.PointReading.{with_first}
 
 -- these numbers before the others, where they are all there
 abbrev pub with_numbers : List ℤ → Option (List ℤ) → Option (List ℤ)

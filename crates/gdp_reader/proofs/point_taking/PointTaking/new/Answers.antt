@@ -1,4 +1,4 @@
-use Rattle.std.proofs.Common.{length, ap, arith, ◌∙◌, sym}
+use Rattle.std.proofs.Common.{length, ap, arith}
 use Rattle.gdp_reader.proofs.point_taking.PointTaking.new.Goals as goal
 
 pub invariant_of-result-clause-numbered : goal.invariant_of-result-clause-numbered
