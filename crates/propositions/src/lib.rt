@@ -16,3 +16,6 @@ pub use reading::tri;
 pub use sizes::{depth, greatest_number, has_empty_list, most_arguments, node_count};
 pub use tree::Prop;
 pub use truths::{has_ids_below, truth};
+
+#[cfg(test)]
+mod tests;
