@@ -1,8 +1,14 @@
 //! The lines of a block and of what is below it.
 
-ghost use Rattle.std.specs.Prelude.{◌≡◌, ◌∷◌, [], ◌++◌, OnOk, codes, map};
+ghost use Rattle.std.specs.Prelude.{◌≡◌, ◌∷◌, [], ◌++◌, OnOk, true, codes, map};
 ghost use Rattle.block_tree.specs.Values.{model_tree};
 ghost use Rattle.block_tree.specs.View.{block_of, disjunct_of, disjunction_of, disjuncts_of, disjunctions_of};
+ghost use Rattle.gdp_grammar.specs.CanonicalLaws.{
+  are_rows_stored,
+  is_stored,
+  are_disjunctions_stored,
+  are_disjuncts_stored,
+};
 ghost use Rattle.gdp_grammar.specs.Canonical.{
   text_of,
   row_line,
@@ -22,7 +28,8 @@ use std::alloc::Global;
 
 // The rows of a block.
 fn put_rows(alloc: Global, text: &mut Text, model: &Model, rows: &[(Row, u32)]) -> Result<(), Memory>
-    ensures { OnOk result (text.new ≡ text.old ++ text_of (map (row_line (model_tree model.now)) rows.now)) }
+    ensures text { OnOk result (text.new ≡ text.old ++ text_of (map (row_line (model_tree model.now)) rows.now)) }
+    ensures stored { OnOk result (are_rows_stored rows.now ≡ true) }
 {
     for row in rows {
         put_row(alloc, text, model, row)?;
@@ -34,7 +41,8 @@ fn put_rows(alloc: Global, text: &mut Text, model: &Model, rows: &[(Row, u32)]) 
 #[cycle(put)]
 #[tactic(auto, using(gdp_grammar::proofs::Printed::text_appended))]
 pub fn put_block(alloc: Global, text: &mut Text, model: &Model, block: &Block) -> Result<(), Memory>
-    ensures { OnOk result (text.new ≡ text.old ++ text_of (block_lines (model_tree model.now) (block_of block.now))) }
+    ensures text { OnOk result (text.new ≡ text.old ++ text_of (block_lines (model_tree model.now) (block_of block.now))) }
+    ensures stored { OnOk result (is_stored (block_of block.now) ≡ true) }
 {
     put_rows(alloc, text, model, block.rows())?;
     put_disjunctions(alloc, text, model, block.disjunctions())
@@ -47,8 +55,9 @@ fn put_disjunctions(
     model: &Model,
     disjunctions: &[Disjunction],
 ) -> Result<(), Memory>
-    ensures { OnOk result (text.new
+    ensures text { OnOk result (text.new
         ≡ text.old ++ text_of (disjunctions_lines (model_tree model.now) (disjunctions_of disjunctions.now))) }
+    ensures stored { OnOk result (are_disjunctions_stored (disjunctions_of disjunctions.now) ≡ true) }
 {
     for disjunction in disjunctions {
         put_disjunction(alloc, text, model, disjunction)?;
@@ -63,8 +72,9 @@ fn put_disjunction(
     model: &Model,
     disjunction: &Disjunction,
 ) -> Result<(), Memory>
-    ensures { OnOk result (text.new
+    ensures text { OnOk result (text.new
         ≡ text.old ++ text_of (lines_of_disjunction (model_tree model.now) (disjunction_of disjunction.now))) }
+    ensures stored { OnOk result (are_disjuncts_stored (disjunction_of disjunction.now).1 ≡ true) }
 {
     put_disjunction_line(alloc, text, disjunction.mode())?;
     put_disjuncts(alloc, text, model, disjunction.disjuncts())?;
@@ -78,8 +88,9 @@ fn put_disjuncts(
     model: &Model,
     disjuncts: &[Disjunct],
 ) -> Result<(), Memory>
-    ensures { OnOk result (text.new
+    ensures text { OnOk result (text.new
         ≡ text.old ++ text_of (disjuncts_lines (model_tree model.now) (disjuncts_of disjuncts.now))) }
+    ensures stored { OnOk result (are_disjuncts_stored (disjuncts_of disjuncts.now) ≡ true) }
 {
     for disjunct in disjuncts {
         put_disjunct(alloc, text, model, disjunct)?;
@@ -89,8 +100,9 @@ fn put_disjuncts(
 
 #[cycle(put)]
 fn put_disjunct(alloc: Global, text: &mut Text, model: &Model, disjunct: &Disjunct) -> Result<(), Memory>
-    ensures { OnOk result (text.new
+    ensures text { OnOk result (text.new
         ≡ text.old ++ text_of (lines_of_disjunct (model_tree model.now) (disjunct_of disjunct.now))) }
+    ensures stored { OnOk result (is_stored (disjunct_of disjunct.now).1 ≡ true) }
 {
     put_disjunct_line(alloc, text, model, disjunct.indicator())?;
     put_block(alloc, text, model, disjunct.block())?;

@@ -1,6 +1,7 @@
 //! The lines of a model's parts. Each ends with a newline.
 
-ghost use Rattle.std.specs.Prelude.{◌≡◌, ◌∷◌, [], ◌++◌, OnOk, codes, List, ℕ};
+ghost use Rattle.std.specs.Prelude.{◌≡◌, ◌∷◌, [], ◌++◌, OnOk, None, codes};
+ghost use Rattle.lp_rows.specs.Rows.{row_refusal};
 ghost use Rattle.block_tree.specs.Values.{model_tree};
 ghost use Rattle.gdp_grammar.specs.Canonical.{
   text_of,
@@ -81,7 +82,8 @@ fn put_rel(alloc: Global, text: &mut Text, rel: Rel) -> Result<(), Memory>
 
 /// The line of a row.
 pub fn put_row(alloc: Global, text: &mut Text, model: &Model, row: &(Row, u32)) -> Result<(), Memory>
-    ensures { OnOk result (text.new ≡ text.old ++ row_line (model_tree model.now) row.now ++ 10 ∷ []) }
+    ensures text { OnOk result (text.new ≡ text.old ++ row_line (model_tree model.now) row.now ++ 10 ∷ []) }
+    ensures stored { OnOk result (row_refusal row.now.0.terms row.now.0.right ≡ None) }
 {
     text.append(alloc, b"row")?;
     put_sum(alloc, text, model, row.0.terms(), 1)?;

@@ -1,7 +1,9 @@
 //! The text of a whole model.
 
 ghost use Rattle.std.specs.Prelude.{◌≡◌, ◌∷◌, [], ◌++◌, OnOk, IfOk, codes, map};
-ghost use Rattle.block_tree.specs.Values.{model_tree};
+ghost use Rattle.block_tree.specs.Values.{ModelTree, model_tree};
+ghost use Rattle.gdp_grammar.specs.CanonicalLaws.{AreSame};
+ghost use Rattle.gdp_grammar.specs.Spelling.{Spells};
 ghost use Rattle.gdp_grammar.specs.Canonical.{text_of, var_line, boolean_line, free_from, canonical_lines, canonical_text};
 
 use crate::blocks::put_block;
@@ -51,7 +53,8 @@ fn put_header(alloc: Global, text: &mut Text) -> Result<(), Memory>
 // All lines of a model.
 #[tactic(auto, using(gdp_grammar::proofs::Printed::text_appended))]
 fn put_model(alloc: Global, text: &mut Text, model: &Model) -> Result<(), Memory>
-    ensures { OnOk result (text.new ≡ text.old ++ text_of (canonical_lines (model_tree model.now))) }
+    ensures text { OnOk result (text.new ≡ text.old ++ text_of (canonical_lines (model_tree model.now))) }
+    ensures spells { OnOk result ((spelled : ModelTree) × Spells (canonical_text (model_tree model.now)) spelled × AreSame spelled (model_tree model.now)) }
 {
     let ids = indicators_of(alloc, model.root())?;
     put_header(alloc, text)?;
@@ -63,11 +66,12 @@ fn put_model(alloc: Global, text: &mut Text, model: &Model) -> Result<(), Memory
 
 /// The canonical text of a model.
 ///
-/// It is exactly what `canonical_text` says: each line with single blanks, and in lowest terms each number. Two models
-/// that are the same but for their marks have the same text.
+/// It is exactly what `canonical_text` says: each line with single blanks, and in lowest terms each number. It spells a
+/// model that is the same but for its marks, which are the numbers of this text's lines.
 #[tactic(auto, unfolding(gdp_grammar::specs::Canonical::canonical_text))]
 pub fn model_text(alloc: Global, model: &Model) -> Result<Text, Memory>
-    ensures { IfOk result (λ text. text ≡ canonical_text (model_tree model.now)) }
+    ensures text { IfOk result (λ text. text ≡ canonical_text (model_tree model.now)) }
+    ensures spells { IfOk result (λ text. (spelled : ModelTree) × Spells text spelled × AreSame spelled (model_tree model.now)) }
 {
     let mut text = Text::new(alloc);
     put_model(alloc, &mut text, model)?;
