@@ -1,5 +1,5 @@
 -- A builder that is new is whole, and so is the model that is made of one.
-use Rattle.std.proofs.Common.{◌≡◌, ℕ, true, false, not, Option, Some, None, length, refl, ap, sym, ◌∙◌, arith}
+use Rattle.std.proofs.Common.{◌≡◌, ℕ, true, not, Option, Some, None, length, refl, ◌∙◌, arith}
 use Rattle.std.proofs.lemmas.List.Elements.{All-nil}
 use Rattle.std.specs.Option.{ForSome}
 use Rattle.fractions.specs.Memory.{refuse_if}

@@ -5,14 +5,14 @@ use Rattle.std.proofs.lemmas.Int.{unsigned_abs-mul}
 use Rattle.std.proofs.lemmas.List.Elements.{All-head, All-tail, All-cons, All-nil}
 use Rattle.std.proofs.lemmas.Nat.Gcd.{dvd_antisymm}
 use Rattle.std.proofs.Math.Nat.{dvd-mul_left, dvd-mul_right, mul-div_cancel', mul-div_cancel_left}
-use Rattle.std.specs.Int.{IsGcd, ◌∣◌}
+use Rattle.std.specs.Int.{◌∣◌}
 use Rattle.std.specs.List.{list_all}
 use Rattle.fractions.specs.Fraction.{Fraction}
 use Rattle.fractions.proofs.Scaled.{scaled_gcd}
 use Rattle.lp_rows.specs.declared.kinds.Sense.{Sense}
 use Rattle.block_tree.specs.Building.{has_small_parts}
 use Rattle.block_tree.specs.Nesting.{stored_goal}
-use Rattle.block_tree.specs.Scaling.{is_multiple, all_divide, divides_all, are_positive, denominators, least_scale, scale_of, scaled, scaled_terms, stored_terms, insert_term, sorted_among, sorted_terms, IsInLowest, AreLowest}
+use Rattle.block_tree.specs.Scaling.{is_multiple, all_divide, divides_all, are_positive, denominators, scale_of, scaled, scaled_terms, stored_terms, insert_term, sorted_among, sorted_terms, IsInLowest, AreLowest}
 use Rattle.block_tree.specs.Sound.{IsScaleLeast}
 use Rattle.block_tree.specs.Values.{no_goal}
 use Rattle.block_tree.proofs.Keeping.{both, and_true}

@@ -1,7 +1,7 @@
 use Rattle.std.proofs.Common.{◌≡◌, refl, sym, ◌∙◌}
 use Rattle.block_tree.specs.declared.errors.BuildError.TheVariants.{Memory}
 use Rattle.block_tree.specs.Builders.{building_of}
-use Rattle.block_tree.specs.Building.{BuildingValue, rows_so_far, var_outcome}
+use Rattle.block_tree.specs.Building.{rows_so_far, var_outcome}
 use Rattle.block_tree.proofs.Keeping.{acts_keep, var_keeps_whole, var_keeps_rows}
 use Rattle.block_tree.proofs.builder.ModelBuilder.var.Goals as goal
 
