@@ -42,9 +42,9 @@ row_put sum rel right old a b c d e p q r s t =
     let two : c ≡ old ++ (codes "row" ++ spaced sum ++ 32 ∷ rel) = appended old b c (codes "row" ++ spaced sum) (32 ∷ rel) one r in
     let three : d ≡ old ++ (codes "row" ++ spaced sum ++ 32 ∷ rel ++ 32 ∷ right) = appended old c d (codes "row" ++ spaced sum ++ 32 ∷ rel) (32 ∷ right) two s in
     let words : codes "row" ++ spaced sum ++ 32 ∷ rel ++ 32 ∷ right ≡ line_of (codes "row") (sum ++ rel ∷ right ∷ []) =
-        append_assoc (codes "row" ++ spaced sum) (32 ∷ rel) (32 ∷ right) ∙ append_assoc (codes "row") (spaced sum) (32 ∷ rel ++ 32 ∷ right)
-        ∙ ap (λ x. codes "row" ++ (spaced sum ++ (32 ∷ rel ++ 32 ∷ x))) (sym (append-nil right))
-        ∙ ap (λ x. codes "row" ++ x) (sym (spaced_appended sum (rel ∷ right ∷ []))) in
+    append_assoc (codes "row" ++ spaced sum) (32 ∷ rel) (32 ∷ right) ∙ append_assoc (codes "row") (spaced sum) (32 ∷ rel ++ 32 ∷ right)
+    ∙ ap (λ x. codes "row" ++ (spaced sum ++ (32 ∷ rel ++ 32 ∷ x))) (sym (append-nil right))
+    ∙ ap (λ x. codes "row" ++ x) (sym (spaced_appended sum (rel ∷ right ∷ []))) in
     t ∙ ap (λ x. x ++ 10 ∷ []) (three ∙ ap (λ x. old ++ x) words)
 
 -- the words of a goal that has terms

@@ -27,7 +27,12 @@ use lp_rows::Row;
 use std::alloc::Global;
 
 // The rows of a block.
-fn put_rows(alloc: Global, text: &mut Text, model: &Model, rows: &[(Row, u32)]) -> Result<(), Memory>
+fn put_rows(
+    alloc: Global,
+    text: &mut Text,
+    model: &Model,
+    rows: &[(Row, u32)],
+) -> Result<(), Memory>
     ensures text { OnOk result (text.new ≡ text.old ++ text_of (map (row_line (model_tree model.now)) rows.now)) }
     ensures stored { OnOk result (are_rows_stored rows.now ≡ true) }
 {
@@ -99,7 +104,12 @@ fn put_disjuncts(
 }
 
 #[cycle(put)]
-fn put_disjunct(alloc: Global, text: &mut Text, model: &Model, disjunct: &Disjunct) -> Result<(), Memory>
+fn put_disjunct(
+    alloc: Global,
+    text: &mut Text,
+    model: &Model,
+    disjunct: &Disjunct,
+) -> Result<(), Memory>
     ensures text { OnOk result (text.new
         ≡ text.old ++ text_of (lines_of_disjunct (model_tree model.now) (disjunct_of disjunct.now))) }
     ensures stored { OnOk result (is_stored (disjunct_of disjunct.now).1 ≡ true) }

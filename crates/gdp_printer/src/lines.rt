@@ -49,7 +49,11 @@ fn put_end(alloc: Global, text: &mut Text, none: &[u8], end: &Option<Frac>) -> R
 }
 
 /// The line of a variable.
-pub fn put_var(alloc: Global, text: &mut Text, variable: &(Name, Kind, Bound, u32)) -> Result<(), Memory>
+pub fn put_var(
+    alloc: Global,
+    text: &mut Text,
+    variable: &(Name, Kind, Bound, u32),
+) -> Result<(), Memory>
     ensures { OnOk result (text.new ≡ text.old ++ var_line variable.now ++ 10 ∷ []) }
 {
     text.append(alloc, b"var")?;
@@ -81,7 +85,12 @@ fn put_rel(alloc: Global, text: &mut Text, rel: Rel) -> Result<(), Memory>
 }
 
 /// The line of a row.
-pub fn put_row(alloc: Global, text: &mut Text, model: &Model, row: &(Row, u32)) -> Result<(), Memory>
+pub fn put_row(
+    alloc: Global,
+    text: &mut Text,
+    model: &Model,
+    row: &(Row, u32),
+) -> Result<(), Memory>
     ensures text { OnOk result (text.new ≡ text.old ++ row_line (model_tree model.now) row.now ++ 10 ∷ []) }
     ensures stored { OnOk result (row_refusal row.now.0.terms row.now.0.right ≡ None) }
 {

@@ -126,7 +126,7 @@ fn goal_scale(model: &Model) -> i128
 pub fn put_goal_sum(alloc: Global, text: &mut Text, model: &Model) -> Result<(), Memory>
     ensures { OnOk result (text.new
         ≡ text.old ++ spaced (goal_words (var_names (model_tree model.now))
-            (terms_over model.now.goal.scale model.now.goal.terms) (over model.now.goal.scale model.now.goal.constant))) }
+        (terms_over model.now.goal.scale model.now.goal.terms) (over model.now.goal.scale model.now.goal.constant))) }
 {
     let scale = goal_scale(model);
     if model.terms().is_empty() {

@@ -14,8 +14,8 @@ returns-clause-text c =
     let q = rw (to_z-of_z w128 c.right.result f, c.right.ensures) at c.quotient.ensures in
     on_ok c.push.result
     (λ e. row_put (sum_words (var_names (model_tree c.args.model.now)) (terms_over (pos 1) row.terms)) (rel_word row.rel) (number_word (over (pos 1) row.right))
-        c.args.text.now c.append.new.self c.put_sum.new.text c.put_rel.new.text c.put_number.new.text c.push.new.self
-        c.in_ok-append.ensures.ok (rw c.terms.ensures.value at c.in_ok-put_sum.ensures) (rw c.rel.ensures at c.in_ok-put_rel.ensures) (rw q at c.in_ok-put_number.ensures) e)
+    c.args.text.now c.append.new.self c.put_sum.new.text c.put_rel.new.text c.put_number.new.text c.push.new.self
+    c.in_ok-append.ensures.ok (rw c.terms.ensures.value at c.in_ok-put_sum.ensures) (rw c.rel.ensures at c.in_ok-put_rel.ensures) (rw q at c.in_ok-put_number.ensures) e)
     c.push.ensures.ok
 
 pub returns-clause-stored : goal.returns-clause-stored
