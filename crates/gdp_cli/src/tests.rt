@@ -183,10 +183,12 @@ fn tells_faults_and_faulty_words(rt: HostRuntime) {
 }
 
 /// A choice within a choice.
-const NESTED: &[u8] = b"gdp 1\nvar x real 0 10\ndisjunction xor\ndisjunct a\ndisjunction xor\ndisjunct c\nrow x <= 7\nend\ndisjunct d\nrow x >= 8\nend\nend\nend\ndisjunct b\nend\nend\n";
+const NESTED: &[u8] =
+    b"gdp 1\nvar x real 0 10\ndisjunction xor\ndisjunct a\ndisjunction xor\ndisjunct c\nrow x <= 7\nend\ndisjunct d\nrow x >= 8\nend\nend\nend\ndisjunct b\nend\nend\n";
 
 /// A choice of one or both.
-const EITHER: &[u8] = b"gdp 1\nvar x real 0 10\ndisjunction or\ndisjunct a\nrow x <= 7\nend\ndisjunct b\nrow x >= 3\nend\nend\n";
+const EITHER: &[u8] =
+    b"gdp 1\nvar x real 0 10\ndisjunction or\ndisjunct a\nrow x <= 7\nend\ndisjunct b\nrow x >= 3\nend\nend\n";
 
 #[test]
 fn tests_choices(rt: HostRuntime) {
@@ -199,12 +201,7 @@ fn tests_choices(rt: HostRuntime) {
             b"fails at line 6\n",
         ),
         (NESTED, b"val x 5\non b\n", Status::Done, b"holds\n"),
-        (
-            EITHER,
-            b"val x 5\non a\non b\n",
-            Status::Done,
-            b"holds\n",
-        ),
+        (EITHER, b"val x 5\non a\non b\n", Status::Done, b"holds\n"),
         (
             EITHER,
             b"val x 2\non a\non b\n",
@@ -213,7 +210,9 @@ fn tests_choices(rt: HostRuntime) {
         ),
     ];
     for (model, lines, status, on_out) in rows {
-        let mut point = Text::from_slice(rt.alloc(), b"gdp-point 1\nover 1\n").expect(&rt, "memory");
+        let mut point = Text::from_slice(rt.alloc(), b"gdp-point 1\nover 1\n").expect(
+            &rt, "memory",
+        );
         point.append(rt.alloc(), lines).expect(&rt, "memory");
         point.append(rt.alloc(), b"end\n").expect(&rt, "memory");
         let given = Given {
@@ -228,7 +227,14 @@ fn tests_choices(rt: HostRuntime) {
 }
 
 /// Formats a model, and compares what is answered.
-fn expect_format(rt: &(impl AllocGlobal + Abort), model: &[u8], fails: u32, status: Status, on_out: &[u8], on_err: &[u8]) {
+fn expect_format(
+    rt: &(impl AllocGlobal + Abort),
+    model: &[u8],
+    fails: u32,
+    status: Status,
+    on_out: &[u8],
+    on_err: &[u8],
+) {
     let given = Given {
         model,
         point: b"",
