@@ -1,7 +1,7 @@
-"""What the program has to answer, written down a second time and apart from it, straight from `docs/FORMATS.md`.
+"""What the program has to answer, written down a second time and apart from it, by the rules of `docs/FORMATS.md`.
 
 `answer(words, files)` gives the status, the output and the error of a command over texts that can be read. It is for
-comparing: it is slow, short, and shares nothing with the program, not even the numbers (Python's have no limit).
+comparing: it is slow, short, and shares no code with the program, not even the numbers (Python's have no limit).
 """
 
 import re
