@@ -8,10 +8,10 @@ use Rattle.lp_rows.specs.declared.kinds.Sense.{Sense}
 use Rattle.block_tree.specs.declared.scaling.Stored.{Stored}
 use Rattle.block_tree.specs.Building.{OpenBlock, OpenDisjunction, BuildingValue}
 use Rattle.block_tree.specs.Values.{GoalValue}
-use Rattle.block_tree.specs.View.{disjunct_of, disjunction_of}
+use Rattle.block_tree.specs.View.{disjunct_of, disjunction_of, props_of}
 
 abbrev pub open_block_of : Level → OpenBlock
-open_block_of l = record { indicator = l.indicator; mark = l.mark; rows = l.rows.items; closed = map disjunction_of l.disjunctions.items }
+open_block_of l = record { indicator = l.indicator; mark = l.mark; rows = l.rows.items; props = props_of l.props.items; closed = map disjunction_of l.disjunctions.items }
 
 abbrev pub open_disjunction_of : Opened → OpenDisjunction
 open_disjunction_of d = record { mode = d.mode; mark = d.mark; closed = map disjunct_of d.disjuncts.items }

@@ -7,6 +7,7 @@ use Rattle.lp_rows.specs.declared.kinds.Kind.{Kind}
 use Rattle.lp_rows.specs.declared.kinds.Rel.{Rel}
 use Rattle.lp_rows.specs.declared.kinds.Sense.{Sense}
 use Rattle.lp_rows.specs.Rows.{RowValue, is_storable, has_zero, are_storable}
+use Rattle.propositions.specs.Tree.{PropTree}
 use Rattle.block_tree.specs.declared.bounds.Bound.{Bound}
 use Rattle.block_tree.specs.declared.errors.BuildError.{BuildError}
 use Rattle.block_tree.specs.declared.errors.BuildError.TheVariants.{Place, NameTwice, NameUnknown, Number, Nesting, Unclosed, Limit, Missing}
@@ -23,6 +24,7 @@ pub record OpenBlock : Type 0 where
   pub indicator : ℕ
   pub mark : ℕ
   pub rows : List (RowValue × ℕ)
+  pub props : List (PropTree × ℕ)
   pub closed : List DisjunctionTree
 
 -- a disjunction that is open, with the disjuncts that it has so far
@@ -43,7 +45,7 @@ pub record BuildingValue : Type 0 where
 
 -- an open block that holds nothing
 abbrev pub empty_block : ℕ → ℕ → OpenBlock
-empty_block indicator mark = record { indicator = indicator; mark = mark; rows = []; closed = [] }
+empty_block indicator mark = record { indicator = indicator; mark = mark; rows = []; props = []; closed = [] }
 
 -- nothing declared, and an empty root
 abbrev pub new_building : BuildingValue
@@ -159,7 +161,7 @@ goal_of (Some goal) = goal
 
 -- the block of what an open block holds
 abbrev pub closed_block : OpenBlock → BlockTree
-closed_block o = block (record { rows = o.rows }) (disjunctions o.closed)
+closed_block o = block (record { rows = o.rows; props = o.props }) (disjunctions o.closed)
 
 -- the model of all that was given
 abbrev pub built_model : BuildingValue → ModelTree

@@ -3,6 +3,8 @@ pub mod Building
 pub mod Variables
 pub mod Names
 pub mod Numbers
+pub mod Items
+pub mod Props
 pub mod Nesting
 pub mod Occurs
 pub mod Satisfied

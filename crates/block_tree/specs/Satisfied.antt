@@ -8,6 +8,8 @@ use Rattle.lp_rows.specs.declared.kinds.Kind.TheVariants.{Real, Int}
 use Rattle.lp_rows.specs.Holding.{holds_at}
 use Rattle.lp_rows.specs.Points.{PointValue}
 use Rattle.lp_rows.specs.Rows.{RowValue}
+use Rattle.propositions.specs.Tree.{PropTree}
+use Rattle.propositions.specs.Truth.{truth_of}
 use Rattle.block_tree.specs.declared.tree.Mode.{Mode}
 use Rattle.block_tree.specs.declared.tree.Mode.TheVariants.{Xor, Or}
 use Rattle.block_tree.specs.Tree.{BlockTree, block, Disjunctions, no_disjunctions, disjunction, Disjuncts, no_disjuncts, disjunct}
@@ -56,6 +58,10 @@ vars_take (v ∷ vs) j nums over = takes v (nums j) over && vars_take vs (j + 1)
 abbrev pub rows_hold : List (RowValue × ℕ) → PointOf → Bool
 rows_hold rows p = list_all (λ r. holds_at r.0 p.over p.nums) rows
 
+-- each proposition is true
+abbrev pub props_hold : List (PropTree × ℕ) → (ℕ → Bool) → Bool
+props_hold props truths = list_all (λ q. truth_of q.0 truths) props
+
 -- how many of the disjuncts' indicators are true
 abbrev pub true_count : Disjuncts → (ℕ → Bool) → ℕ
 true_count no_disjuncts truths = 0
@@ -79,11 +85,12 @@ abbrev mutual
   are_disjuncts_off no_disjuncts truths = true
   are_disjuncts_off (disjunct head b js) truths = not (truths head.indicator) && is_off b truths && are_disjuncts_off js truths
 
--- A block is satisfied where its rows hold and, for each of its disjunctions, as many indicators are true as its
--- mode says, each true disjunct's block is satisfied, and below a false one every indicator is false.
+-- A block is satisfied where its rows hold, its propositions are true and, for each of its disjunctions, as many
+-- indicators are true as its mode says, each true disjunct's block is satisfied, and below a false one every indicator
+-- is false.
 abbrev mutual
   pub is_satisfied : BlockTree → PointOf → Bool
-  is_satisfied (block items ds) p = rows_hold items.rows p && are_disjunctions_satisfied ds p
+  is_satisfied (block items ds) p = rows_hold items.rows p && (props_hold items.props p.truths && are_disjunctions_satisfied ds p)
 
   pub are_disjunctions_satisfied : Disjunctions → PointOf → Bool
   are_disjunctions_satisfied no_disjunctions p = true

@@ -5,11 +5,13 @@ use Rattle.std.specs.Option.{ForSome}
 use Rattle.fractions.specs.Fraction.{Fraction}
 use Rattle.lp_rows.specs.Holding.{ids_below}
 use Rattle.lp_rows.specs.Rows.{RowValue, is_storable, row_refusal}
+use Rattle.propositions.specs.Tree.{PropTree}
 use Rattle.block_tree.specs.declared.bounds.Bound.{Bound}
 use Rattle.block_tree.specs.Building.{OpenBlock, OpenDisjunction, BuildingValue, is_bound, is_empty, rows_so_far}
 use Rattle.block_tree.specs.Names.{has_name, is_name}
+use Rattle.block_tree.specs.Props.{is_prop_sound, nodes_so_far}
 use Rattle.block_tree.specs.Scaling.{divides_all, IsInLowest}
-use Rattle.block_tree.specs.Tree.{DisjunctHead, BlockTree, block, Disjunctions, no_disjunctions, disjunction, Disjuncts, no_disjuncts, disjunct, row_count, below, below_disjunctions, below_disjuncts}
+use Rattle.block_tree.specs.Tree.{DisjunctHead, BlockTree, block, Disjunctions, no_disjunctions, disjunction, Disjuncts, no_disjuncts, disjunct, row_count, node_total, below, below_disjunctions, below_disjuncts}
 use Rattle.block_tree.specs.Values.{GoalValue, ModelTree}
 use Rattle.block_tree.specs.Variables.{VarValue, BooleanValue}
 use Rattle.block_tree.specs.View.{disjuncts, disjunctions}
@@ -27,16 +29,20 @@ names_of vars booleans = map (λ v. v.0) vars ++ map (λ b. b.0) booleans
 abbrev pub are_rows_below : ℕ → List (RowValue × ℕ) → Bool
 are_rows_below n rows = list_all (λ r. ids_below n r.0.terms) rows
 
+-- each proposition names only the first m Booleans and keeps the limits
+abbrev pub are_props_sound : ℕ → List (PropTree × ℕ) → Bool
+are_props_sound m props = list_all (λ q. is_prop_sound m q.0) props
+
 -- there is a disjunct
 abbrev pub is_filled : Disjuncts → Bool
 is_filled no_disjuncts = false
 is_filled (disjunct head b js) = true
 
--- In a block and below it rows name one of the first n variables, disjuncts one of the first m Booleans, and every
--- disjunction has a disjunct.
+-- In a block and below it rows name one of the first n variables, propositions and disjuncts some of the first m
+-- Booleans, propositions keep their limits, and every disjunction has a disjunct.
 abbrev mutual
   pub is_block_sound : ℕ → ℕ → BlockTree → Bool
-  is_block_sound n m (block items ds) = are_rows_below n items.rows && are_disjunctions_sound n m ds
+  is_block_sound n m (block items ds) = are_rows_below n items.rows && (are_props_sound m items.props && are_disjunctions_sound n m ds)
 
   pub are_disjunctions_sound : ℕ → ℕ → Disjunctions → Bool
   are_disjunctions_sound n m no_disjunctions = true
@@ -88,15 +94,16 @@ abbrev pub are_last_of : ℕ → List DisjunctHead → Bool
 are_last_of m [] = true
 are_last_of m (head ∷ heads) = (head.indicator + suc (length heads) == m) && are_last_of m heads
 
--- What every model keeps: it has 1 to 500 variables, at most 200 Booleans and at most 1,000 rows, names are names and
--- differ, bounds are bounds in lowest terms, rows, goal and disjuncts name what there is, the goal's scale is the least,
--- every disjunction has a disjunct, no disjunct stands more than eight deep, and the indicators in the order of the
--- text are the last Booleans.
+-- What every model keeps: it has 1 to 500 variables, at most 200 Booleans and at most 1,000 rows, its propositions have
+-- at most 5,000 nodes, names are names and differ, bounds are bounds in lowest terms, rows, goal, propositions and
+-- disjuncts name what there is, propositions keep their limits, the goal's scale is the least, every disjunction has a
+-- disjunct, no disjunct stands more than eight deep, and the indicators in the order of the text are the last Booleans.
 pub record IsSound (m : ModelTree) : Type 0 where
   pub some_variable : is_empty m.vars ≡ false
   pub few_variables : length m.vars ≤ 500
   pub few_booleans : length m.booleans ≤ 200
   pub few_rows : row_count m.root ≤ 1000
+  pub few_nodes : node_total m.root ≤ 5000
   pub names : are_names (names_of m.vars m.booleans) ≡ true
   pub bounds : are_bounds m.vars ≡ true
   pub ends : All (λ v. AreEndsLowest v.2) m.vars
@@ -108,7 +115,7 @@ pub record IsSound (m : ModelTree) : Type 0 where
 
 -- the same of open blocks and disjunctions
 abbrev pub is_open_sound : ℕ → ℕ → OpenBlock → Bool
-is_open_sound n m o = are_rows_below n o.rows && are_disjunctions_sound n m (disjunctions o.closed)
+is_open_sound n m o = are_rows_below n o.rows && (are_props_sound m o.props && are_disjunctions_sound n m (disjunctions o.closed))
 
 abbrev pub is_opened_sound : ℕ → ℕ → Option OpenDisjunction → Bool
 is_opened_sound n m None = true
@@ -167,6 +174,7 @@ pub record IsWhole (b : BuildingValue) : Type 0 where
   pub few_variables : length b.vars ≤ 500
   pub few_booleans : length b.booleans ≤ 200
   pub few_rows : rows_so_far b ≤ 1000
+  pub few_nodes : nodes_so_far b ≤ 5000
   pub names : are_names (names_of b.vars b.booleans) ≡ true
   pub bounds : are_bounds b.vars ≡ true
   pub ends : All (λ v. AreEndsLowest v.2) b.vars

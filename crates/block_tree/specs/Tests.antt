@@ -4,6 +4,8 @@ use Rattle.fractions.specs.Fraction.{Fraction}
 use Rattle.fractions.specs.Width.{fits}
 use Rattle.lp_rows.specs.Holding.{holds_at, row_fits}
 use Rattle.lp_rows.specs.Rows.{RowValue}
+use Rattle.propositions.specs.Tree.{PropTree}
+use Rattle.propositions.specs.Truth.{truth_of}
 use Rattle.block_tree.specs.declared.errors.Verdict.{Verdict}
 use Rattle.block_tree.specs.declared.errors.Verdict.TheVariants.{Holds, FailsAt}
 use Rattle.block_tree.specs.declared.errors.SumWide.{SumWide}
@@ -55,15 +57,19 @@ tests_of_vars (v ∷ vs) j nums over = tests_of_var v (nums j) over ++ tests_of_
 abbrev pub test_of_row : PointOf → RowValue × ℕ → Test
 test_of_row p r = sized_test (row_fits r.0 p.over p.nums) (holds_at r.0 p.over p.nums) r.1
 
+-- the test of a proposition
+abbrev pub test_of_prop : (ℕ → Bool) → PropTree × ℕ → Test
+test_of_prop truths q = test_of (truth_of q.0 truths) q.1
+
 -- the test that a disjunct below a false one is false too
 abbrev pub test_of_off : (ℕ → Bool) → DisjunctHead → Test
 test_of_off truths head = if truths head.indicator then fails head.mark else passes
 
--- A block's tests: its rows, then its disjunctions. Of a disjunction the number of true indicators comes first, then
+-- A block's tests: its rows, then its propositions, then its disjunctions. Of a disjunction the number of true indicators comes first, then
 -- each disjunct in order: the tests of a true one's block, and for a false one that every indicator below is false.
 abbrev mutual
   pub tests_of_block : BlockTree → PointOf → List Test
-  tests_of_block (block items ds) p = map (test_of_row p) items.rows ++ tests_of_disjunctions ds p
+  tests_of_block (block items ds) p = map (test_of_row p) items.rows ++ (map (test_of_prop p.truths) items.props ++ tests_of_disjunctions ds p)
 
   pub tests_of_disjunctions : Disjunctions → PointOf → List Test
   tests_of_disjunctions no_disjunctions p = []

@@ -1,6 +1,8 @@
 -- The tree of blocks, as plain data.
 use Rattle.std.specs.Prelude.{ℕ, ◌+◌, zero, List, [], ◌∷◌, ◌++◌, length}
 use Rattle.lp_rows.specs.Rows.{RowValue}
+use Rattle.propositions.specs.Sizes.{node_count_of}
+use Rattle.propositions.specs.Tree.{PropTree}
 use Rattle.block_tree.specs.declared.tree.Mode.{Mode}
 
 -- what a disjunction has beside its disjuncts
@@ -13,9 +15,10 @@ pub record DisjunctHead : Type 0 where
   pub indicator : ℕ
   pub mark : ℕ
 
--- what a block has beside its disjunctions: its rows, each with its mark
+-- what a block has beside its disjunctions: its rows and its propositions, each with its mark
 pub record BlockItems : Type 0 where
   pub rows : List (RowValue × ℕ)
+  pub props : List (PropTree × ℕ)
 
 mutual
   -- a block, and under it lists of disjunctions and of disjuncts
@@ -42,6 +45,24 @@ abbrev mutual
   pub row_count_within : Disjuncts → ℕ
   row_count_within no_disjuncts = zero
   row_count_within (disjunct head b js) = row_count b + row_count_within js
+
+-- how many nodes these propositions have
+abbrev pub nodes_of_props : List (PropTree × ℕ) → ℕ
+nodes_of_props [] = zero
+nodes_of_props (q ∷ qs) = node_count_of q.0 + nodes_of_props qs
+
+-- how many nodes the propositions of a block and those below it have
+abbrev mutual
+  pub node_total : BlockTree → ℕ
+  node_total (block items ds) = nodes_of_props items.props + node_total_below ds
+
+  pub node_total_below : Disjunctions → ℕ
+  node_total_below no_disjunctions = zero
+  node_total_below (disjunction head js ds) = node_total_within js + node_total_below ds
+
+  pub node_total_within : Disjuncts → ℕ
+  node_total_within no_disjuncts = zero
+  node_total_within (disjunct head b js) = node_total b + node_total_within js
 
 -- the disjuncts below in the order of the text: each before those of its block
 abbrev mutual

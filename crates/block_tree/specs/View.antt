@@ -1,6 +1,9 @@
 -- The plain tree that a stored block stands for.
 use Rattle.std.specs.Prelude.{ℕ, List, [], ◌∷◌, map}
 use Rattle.lp_rows.specs.Rows.{RowValue}
+use Rattle.propositions.specs.declared.tree.Prop.{Prop}
+use Rattle.propositions.specs.Tree.{PropTree}
+use Rattle.propositions.specs.View.{prop_tree}
 use Rattle.block_tree.specs.Tree.{DisjunctionHead, DisjunctHead, BlockTree, block, Disjunctions, no_disjunctions, disjunction, Disjuncts, no_disjuncts, disjunct}
 use Rattle.block_tree.specs.declared.tree.Block.{Block}
 use Rattle.block_tree.specs.declared.tree.Disjunct.{Disjunct}
@@ -16,9 +19,12 @@ DisjunctTree = DisjunctHead × BlockTree
 abbrev pub DisjunctionTree : Type 0
 DisjunctionTree = DisjunctionHead × Disjuncts
 
--- the rows of a block, and its disjunctions
+-- the rows of a block, its propositions, and its disjunctions
 abbrev pub rows_in : BlockTree → List (RowValue × ℕ)
 rows_in (block items ds) = items.rows
+
+abbrev pub props_in : BlockTree → List (PropTree × ℕ)
+props_in (block items ds) = items.props
 
 abbrev pub disjunctions_in : BlockTree → Disjunctions
 disjunctions_in (block items ds) = ds
@@ -33,9 +39,13 @@ abbrev pub disjunctions : List DisjunctionTree → Disjunctions
 disjunctions [] = no_disjunctions
 disjunctions (d ∷ ds) = disjunction d.0 d.1 (disjunctions ds)
 
+-- propositions as plain data, each with its mark
+abbrev pub props_of : List (Prop × ℕ) → List (PropTree × ℕ)
+props_of qs = map (λ q. (prop_tree q.0, q.1)) qs
+
 -- one layer of each
 abbrev pub block_layer : Block-F BlockTree DisjunctTree DisjunctionTree → BlockTree
-block_layer b = block (record { rows = b.rows.items }) (disjunctions b.disjunctions.items)
+block_layer b = block (record { rows = b.rows.items; props = props_of b.props.items }) (disjunctions b.disjunctions.items)
 
 abbrev pub disjunct_layer : Disjunct-F BlockTree DisjunctTree DisjunctionTree → DisjunctTree
 disjunct_layer j = (record { indicator = j.indicator; mark = j.mark }, j.block)

@@ -3,6 +3,7 @@
 ghost use Rattle.std.specs.Prelude.{◌≡◌};
 
 use lp_rows::Row;
+use propositions::Prop;
 
 /// How many of a disjunction's indicators are to be true.
 #[derive(Clone, Copy, Debug, PartialEq, Eq)]
@@ -13,11 +14,12 @@ pub enum Mode {
     Or,
 }
 
-/// Rows and disjunctions that stand together: those of the root, or those that an indicator enforces.
+/// Rows, propositions and disjunctions that stand together: those of the root, or those that an indicator enforces.
 #[cycle(tree)]
 #[derive(Drop)]
 pub struct Block {
     pub(crate) rows: Vec<(Row, u32)>,
+    pub(crate) props: Vec<(Prop, u32)>,
     pub(crate) disjunctions: Vec<Disjunction>,
 }
 
@@ -41,7 +43,7 @@ pub struct Disjunct {
 
 impl Block {
     ghost use Rattle.block_tree.specs.declared.tree.Block.TheViews.{out-Block};
-    ghost use Rattle.block_tree.specs.View.{block_of, disjunctions_of, rows_in, disjunctions_in};
+    ghost use Rattle.block_tree.specs.View.{block_of, disjunctions_of, props_of, rows_in, props_in, disjunctions_in};
 
     /// The rows, each with its mark.
     pub fn rows(&self) -> &[(Row, u32)]
@@ -49,6 +51,14 @@ impl Block {
         ensures tree { result.now ≡ rows_in (block_of self.now) }
     {
         self.rows.as_slice()
+    }
+
+    /// The propositions, each with its mark.
+    pub fn props(&self) -> &[(Prop, u32)]
+        ensures items { result.now ≡ (out-Block self.now).props.items }
+        ensures tree { props_of result.now ≡ props_in (block_of self.now) }
+    {
+        self.props.as_slice()
     }
 
     /// The disjunctions.
