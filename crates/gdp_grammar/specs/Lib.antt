@@ -20,6 +20,9 @@ pub mod PointForms
 pub mod PointLaws
 pub mod PointReading
 pub mod Points
+pub mod PropNames
+pub mod PropReading
+pub mod PropTexts
 pub mod Reading
 pub mod Spelling
 pub mod Stacks
