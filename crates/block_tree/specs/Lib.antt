@@ -1,5 +1,6 @@
 pub mod Builders
 pub mod Building
+pub mod Earlier
 pub mod Variables
 pub mod Names
 pub mod Numbers

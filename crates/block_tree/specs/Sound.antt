@@ -8,6 +8,7 @@ use Rattle.lp_rows.specs.Rows.{RowValue, is_storable, row_refusal}
 use Rattle.propositions.specs.Tree.{PropTree}
 use Rattle.block_tree.specs.declared.bounds.Bound.{Bound}
 use Rattle.block_tree.specs.Building.{OpenBlock, OpenDisjunction, BuildingValue, is_bound, is_empty, rows_so_far}
+use Rattle.block_tree.specs.Earlier.{names_earlier, disjunctions_name_earlier, disjuncts_name_earlier}
 use Rattle.block_tree.specs.Names.{has_name, is_name}
 use Rattle.block_tree.specs.Props.{is_prop_sound, nodes_so_far}
 use Rattle.block_tree.specs.Scaling.{divides_all, IsInLowest}
@@ -97,7 +98,8 @@ are_last_of m (head ∷ heads) = (head.indicator + suc (length heads) == m) && a
 -- What every model keeps: it has 1 to 500 variables, at most 200 Booleans and at most 1,000 rows, its propositions have
 -- at most 5,000 nodes, names are names and differ, bounds are bounds in lowest terms, rows, goal, propositions and
 -- disjuncts name what there is, propositions keep their limits, the goal's scale is the least, every disjunction has a
--- disjunct, no disjunct stands more than eight deep, and the indicators in the order of the text are the last Booleans.
+-- disjunct, no disjunct stands more than eight deep, the indicators in the order of the text are the last Booleans, and
+-- propositions name only Booleans that are declared before their block ends.
 pub record IsSound (m : ModelTree) : Type 0 where
   pub some_variable : is_empty m.vars ≡ false
   pub few_variables : length m.vars ≤ 500
@@ -112,6 +114,7 @@ pub record IsSound (m : ModelTree) : Type 0 where
   pub root : is_block_sound (length m.vars) (length m.booleans) m.root ≡ true
   pub shallow : is_shallow 0 m.root ≡ true
   pub indicators : are_last_of (length m.booleans) (below m.root) ≡ true
+  pub earlier : names_earlier (length m.booleans) m.root ≡ true
 
 -- the same of open blocks and disjunctions
 abbrev pub is_open_sound : ℕ → ℕ → OpenBlock → Bool
@@ -143,6 +146,15 @@ are_around_shallow [] = true
 are_around_shallow (o ∷ os) =
     are_disjunctions_shallow (length os) (disjunctions o.0.closed) && are_disjuncts_shallow (length os) (disjuncts o.1.closed) && are_around_shallow os
 
+abbrev pub is_opened_earlier : Option OpenDisjunction → Bool
+is_opened_earlier None = true
+is_opened_earlier (Some d) = disjuncts_name_earlier (disjuncts d.closed)
+
+abbrev pub are_around_earlier : List (OpenBlock × OpenDisjunction) → Bool
+are_around_earlier [] = true
+are_around_earlier (o ∷ os) =
+    disjunctions_name_earlier (disjunctions o.0.closed) && (disjuncts_name_earlier (disjuncts o.1.closed) && are_around_earlier os)
+
 -- the head of an open block, where another is around it
 abbrev pub head_within : DisjunctHead → List (OpenBlock × OpenDisjunction) → List DisjunctHead
 head_within head [] = []
@@ -161,13 +173,17 @@ heads_around [] = []
 heads_around (o ∷ os) = heads_around os ++ (heads_in o.0 os ++ below_disjuncts (disjuncts o.1.closed))
 
 -- What every builder keeps of the places of disjuncts, those that are open included, where there are m Booleans: none
--- stands more than eight deep, and their indicators are the last Booleans.
+-- stands more than eight deep, their indicators are the last Booleans, and in the closed ones propositions name only
+-- Booleans that are declared before their block ends.
 pub record IsNested (m : ℕ) (inner : OpenBlock) (opened : Option OpenDisjunction) (outer : List (OpenBlock × OpenDisjunction)) : Type 0 where
   pub few_around : length outer ≤ 8
   pub shallow : are_disjunctions_shallow (length outer) (disjunctions inner.closed) ≡ true
   pub shallow_opened : is_opened_shallow (length outer) opened ≡ true
   pub shallow_around : are_around_shallow outer ≡ true
   pub indicators : are_last_of m (heads_around outer ++ (heads_in inner outer ++ heads_in_opened opened)) ≡ true
+  pub earlier : disjunctions_name_earlier (disjunctions inner.closed) ≡ true
+  pub earlier_opened : is_opened_earlier opened ≡ true
+  pub earlier_around : are_around_earlier outer ≡ true
 
 -- What every builder keeps, of the numbers of its variables and of its Booleans.
 pub record IsWhole (b : BuildingValue) : Type 0 where

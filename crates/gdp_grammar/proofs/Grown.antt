@@ -13,17 +13,20 @@ use Rattle.block_tree.specs.declared.errors.BuildError.{BuildError}
 use Rattle.block_tree.specs.declared.errors.BuildError.TheVariants as refusal
 use Rattle.block_tree.specs.Building.{BuildingValue, OpenBlock, OpenDisjunction, is_empty, is_at_root, is_taken, refusal_of_var, refusal_of_row, refusal_of_finish, stored_row, goal_of, built_model}
 use Rattle.block_tree.specs.Nesting.{refusal_of_boolean, refusal_of_goal, stored_goal, refusal_of_disjunct, with_disjunct, open_disjunct_in, closed_disjunct, closed_disjunction, close_disjunct, close_opened}
+use Rattle.block_tree.specs.Props.{refusal_of_prop}
 use Rattle.block_tree.specs.Values.{GoalValue, ModelTree}
 use Rattle.block_tree.specs.Variables.{VarValue, BooleanValue}
 use Rattle.gdp_grammar.specs.declared.cause.ReadCause.{ReadCause}
 use Rattle.gdp_grammar.specs.declared.cause.ReadCause.TheVariants as cause
 use Rattle.gdp_grammar.specs.Causes.{refuse_if}
 use Rattle.gdp_grammar.specs.Declaring.{is_blank, form_on, end_value, var_in, boolean_in, goal_in, vars_from, booleans_from, goals_from, IsGoalOf}
-use Rattle.gdp_grammar.specs.Forms.{Form, Var, Boolean, Goal, Row, Disjunction, Disjunct, End, Signed, Summand, form_of, is_logic}
+use Rattle.gdp_grammar.specs.Forms.{Form, Var, Boolean, Goal, Row, Logic, Disjunction, Disjunct, End, Signed, Summand, form_of}
 use Rattle.gdp_grammar.specs.Laws.{LaidOut}
 use Rattle.gdp_grammar.specs.Lines.{lines_of, without_comment}
 use Rattle.gdp_grammar.specs.Numerals.{value_of}
-use Rattle.gdp_grammar.specs.Reading.{Taken, nothing_taken, or_cause, end_of, after_call, with_var, terms_of, constant_value, with_goal, with_row, with_form, is_header, with_header, with_tokens, with_content, with_line, finished, model_after}
+use Rattle.gdp_grammar.specs.PropNames.{are_known, tree_in}
+use Rattle.gdp_grammar.specs.PropReading.{prop_of}
+use Rattle.gdp_grammar.specs.Reading.{Taken, nothing_taken, or_cause, end_of, after_call, with_var, terms_of, constant_value, with_goal, with_row, with_logic, with_form, is_header, with_header, with_tokens, with_content, with_line, finished, model_after}
 use Rattle.gdp_grammar.specs.Spelling.{Leads}
 use Rattle.gdp_grammar.specs.Tokens.{Piece, tokens_of}
 use Rattle.gdp_grammar.specs.Words.{words_of, is_some_word}
@@ -131,6 +134,15 @@ row_grows b new line sum rel right e =
     let made : BuildingValue = record b { inner = record b.inner { rows = b.inner.rows ++ row ∷ [] } } in
     keeps_all b made new refl refl refl (called (refusal_of_row terms.0 number.0 b) b tt made new number.2)
 
+logic_grows : (b new : BuildingValue) (line : ℕ) (tokens : List Piece) → with_logic b line tokens ≡ Ok new → Grows b new [] [] []
+unfolding with_logic
+logic_grows b new line tokens e =
+    let place = bind_ok (refuse_if (is_some b.opened) cause.Form) _ new e in
+    let p = bind_ok (prop_of tokens) _ new place.2 in
+    let known = bind_ok (refuse_if (not (are_known b.booleans p.0)) cause.NameUnknown) _ new p.2 in
+    let made : BuildingValue = record b { inner = record b.inner { props = b.inner.props ++ (tree_in b.booleans p.0, line) ∷ [] } } in
+    keeps_all b made new refl refl refl (called (refusal_of_prop (tree_in b.booleans p.0) b) b tt made new known.2)
+
 disjunct_grows : (b new : BuildingValue) (line : ℕ) (name : List ℕ) (o : Option OpenDisjunction) → after_call (open_disjunct_in o name line b) ≡ Ok new → Grows b new [] ((name, line) ∷ []) []
 disjunct_grows b new line name None e = absurd (cc e)
 disjunct_grows b new line name (Some d) e =
@@ -156,6 +168,7 @@ form_grows b new line (Boolean name) e =
     adds_boolean b made new (name, line) refl refl refl (called (refusal_of_boolean name b) b (length b.booleans) made new e)
 form_grows b new line (Goal sense sum constant) e = goal_grows b new line sense sum constant e
 form_grows b new line (Row sum rel right) e = row_grows b new line sum rel right e
+form_grows b new line (Logic tokens) e = logic_grows b new line tokens e
 form_grows b new line (Disjunction mode) e =
     let made : BuildingValue = record b { opened = Some (record { mode = mode; mark = line; closed = [] }) } in
     keeps_all b made new refl refl refl (called (build_refuse_if (is_some b.opened) refusal.Place None) b tt made new e)
@@ -181,10 +194,10 @@ tokens_add t next line (p ∷ ps) e =
     (subst (λ (n : Taken). Adds t n (var_in line (Ok form.0)) (boolean_in line (Ok form.0)) (goal_in line (Ok form.0))) same
     (record { headed = refl; grows = form_grows t.building building.0 line form.0 building.1 }))
 
--- a line that is no `logic` line adds what its content says
+-- a line adds what its content says
 content_adds : (t next : Taken) (line : ℕ) (l : List ℕ) → with_line t line l ≡ Ok next → with_content t line (without_comment l) ≡ Ok next
 unfolding with_line
-content_adds t next line l e = (bind_ok (refuse_if (is_logic (tokens_of (without_comment l))) cause.NotBuilt) _ next e).2
+content_adds t next line l e = e
 
 -- a line after the header, and one before it
 headed_line : (t : Taken) (line : ℕ) (content : List ℕ) → t.headed ≡ true → with_content t line content ≡ with_tokens t line (tokens_of content)

@@ -2,24 +2,25 @@
 use Rattle.std.proofs.Common.{◌≡◌, ℕ, zero, suc, ◌<◌, true, false, List, [], ◌∷◌, ◌++◌, Option, Some, None, is_some, refl, ap, sym, subst, ◌∙◌, ◌⊎◌, inl, inr, arith}
 use Rattle.std.proofs.lemmas.List.{append-nil}
 use Rattle.lp_rows.specs.Rows.{RowValue}
+use Rattle.propositions.specs.Tree.{PropTree}
 use Rattle.block_tree.specs.declared.tree.Mode.{Mode}
 use Rattle.block_tree.specs.Building.{OpenBlock, OpenDisjunction, empty_block, closed_block}
 use Rattle.block_tree.specs.Nesting.{closed_disjunct, closed_disjunction}
 use Rattle.block_tree.specs.View.{disjuncts, disjunctions}
-use Rattle.gdp_grammar.specs.Nested.{row_marks, disjunction_marks, disjunct_marks, IsBlockOf}
+use Rattle.gdp_grammar.specs.Nested.{row_marks, prop_marks, disjunction_marks, disjunct_marks, IsBlockOf}
 use Rattle.gdp_grammar.specs.Stacks.{open_after, open_before, first_of, same_owner, owned}
-use Rattle.gdp_grammar.specs.Owners.{LineKind, RowLine, DisjunctionLine, DisjunctLine, EndLine, OtherLine, Kinds, is_row, is_disjunction, is_disjunct, is_end, depth, IsNested}
+use Rattle.gdp_grammar.specs.Owners.{LineKind, RowLine, LogicLine, DisjunctionLine, DisjunctLine, EndLine, OtherLine, Kinds, is_row, is_logic, is_disjunction, is_disjunct, is_end, depth, IsNested}
 use Rattle.gdp_grammar.proofs.NestedTrees.{owns, disjunctions_nested}
 use Rattle.gdp_grammar.proofs.Owned.{some_depth}
-use Rattle.gdp_grammar.proofs.Owning.{Has, same_self, other_below, Keeps, keep_kind, keep_owner, adds_row, adds_disjunction, adds_disjunct, Descends, descends, descends_more, new_owner, gone_now, DisjunctionsStand, DisjunctsStand, disjunctions_later, disjuncts_later, disjunctions_push, disjuncts_push, disjunction_marks_push, disjunct_marks_push, row_marks_push}
+use Rattle.gdp_grammar.proofs.Owning.{Has, same_self, other_below, Keeps, keep_kind, keep_owner, adds_row, adds_prop, adds_disjunction, adds_disjunct, Descends, descends, descends_more, new_owner, gone_now, DisjunctionsStand, DisjunctsStand, disjunctions_later, disjuncts_later, disjunctions_push, disjuncts_push, disjunction_marks_push, disjunct_marks_push, row_marks_push, prop_marks_push}
 
 -- an open block has what its owner has, where a disjunction that is open in it is pending
 abbrev pub BlockHolds : Kinds → ℕ → OpenBlock → Option ℕ → List ℕ → Type 0
-BlockHolds kinds n o whose pending = Has kinds n whose (row_marks o.rows) (disjunction_marks (disjunctions o.closed) ++ pending) [] × DisjunctionsStand kinds n (disjunctions o.closed)
+BlockHolds kinds n o whose pending = Has kinds n whose (row_marks o.rows) (prop_marks o.props) (disjunction_marks (disjunctions o.closed) ++ pending) [] × DisjunctionsStand kinds n (disjunctions o.closed)
 
 -- an open disjunction has what its line has, where a disjunct that is open in it is pending
 abbrev pub ChoiceHolds : Kinds → ℕ → OpenDisjunction → List ℕ → Type 0
-ChoiceHolds kinds n d pending = Has kinds n (Some d.mark) [] [] (disjunct_marks (disjuncts d.closed) ++ pending) × DisjunctsStand kinds n (disjuncts d.closed)
+ChoiceHolds kinds n d pending = Has kinds n (Some d.mark) [] [] [] (disjunct_marks (disjuncts d.closed) ++ pending) × DisjunctsStand kinds n (disjuncts d.closed)
 
 -- the owner of what stands in an open block with these around it: the root has none
 abbrev pub block_owner : OpenBlock → List (OpenBlock × OpenDisjunction) → Option ℕ
@@ -62,17 +63,17 @@ unfolding open_before owned
 holds_nothing kinds = record {
   nested = λ k within is. absurd (omega (arith, within));
   lines = refl;
-  block = (record { rows_are = refl; disjunctions_are = refl; disjuncts_are = refl }, tt);
+  block = (record { rows_are = refl; props_are = refl; disjunctions_are = refl; disjuncts_are = refl }, tt);
   choice = tt;
   around = tt;
 }
 
 -- what keeps what it has is held on
 block_on : (kinds : Kinds) (n : ℕ) (o : OpenBlock) (whose : Option ℕ) (pending : List ℕ) → Keeps kinds n whose → BlockHolds kinds n o whose pending → BlockHolds kinds (suc n) o whose pending
-block_on kinds n o whose pending keeps h = (keeps (row_marks o.rows) (disjunction_marks (disjunctions o.closed) ++ pending) [] h.0, disjunctions_later kinds n (disjunctions o.closed) h.1)
+block_on kinds n o whose pending keeps h = (keeps (row_marks o.rows) (prop_marks o.props) (disjunction_marks (disjunctions o.closed) ++ pending) [] h.0, disjunctions_later kinds n (disjunctions o.closed) h.1)
 
 choice_on : (kinds : Kinds) (n : ℕ) (d : OpenDisjunction) (pending : List ℕ) → Keeps kinds n (Some d.mark) → ChoiceHolds kinds n d pending → ChoiceHolds kinds (suc n) d pending
-choice_on kinds n d pending keeps h = (keeps [] [] (disjunct_marks (disjuncts d.closed) ++ pending) h.0, disjuncts_later kinds n (disjuncts d.closed) h.1)
+choice_on kinds n d pending keeps h = (keeps [] [] [] (disjunct_marks (disjuncts d.closed) ++ pending) h.0, disjuncts_later kinds n (disjuncts d.closed) h.1)
 
 -- the lines around a block that were opened before line h
 abbrev AroundDescends : ℕ → List (OpenBlock × OpenDisjunction) → Type 0
@@ -159,7 +160,7 @@ other_holds kinds n inner opened outer is h = record {
 }
   where
     keeps : (o : Option ℕ) → Keeps kinds n o
-    keeps o = keep_kind kinds n o (ap is_row is) (ap is_disjunction is) (ap is_disjunct is)
+    keeps o = keep_kind kinds n o (ap is_row is) (ap is_logic is) (ap is_disjunction is) (ap is_disjunct is)
 
     on : (o : Option OpenDisjunction) → OpenedHolds kinds n o → OpenedHolds kinds (suc n) o
     on None c = tt
@@ -173,8 +174,8 @@ row_holds kinds n inner None [] row is none h = record {
   nested = no_end kinds n RowLine is refl h.nested;
   lines = open_next kinds n RowLine [] is h.lines;
   block = (
-    subst (λ (rs : List ℕ). Has kinds (suc n) None rs (disjunction_marks (disjunctions inner.closed) ++ []) []) (sym (row_marks_push inner.rows (row, n)))
-        (adds_row kinds n None (row_marks inner.rows) (disjunction_marks (disjunctions inner.closed) ++ []) [] is (ap (λ (st : List ℕ). same_owner None (first_of st)) h.lines) h.block.0),
+    subst (λ (rs : List ℕ). Has kinds (suc n) None rs (prop_marks inner.props) (disjunction_marks (disjunctions inner.closed) ++ []) []) (sym (row_marks_push inner.rows (row, n)))
+        (adds_row kinds n None (row_marks inner.rows) (prop_marks inner.props) (disjunction_marks (disjunctions inner.closed) ++ []) [] is (ap (λ (st : List ℕ). same_owner None (first_of st)) h.lines) h.block.0),
     disjunctions_later kinds n (disjunctions inner.closed) h.block.1,
   );
   choice = tt;
@@ -184,8 +185,35 @@ row_holds kinds n inner None (p ∷ ps) row is none h = record {
   nested = no_end kinds n RowLine is refl h.nested;
   lines = open_next kinds n RowLine (inner.mark ∷ p.1.mark ∷ opening_lines p.0 ps) is h.lines;
   block = (
-    subst (λ (rs : List ℕ). Has kinds (suc n) (Some inner.mark) rs (disjunction_marks (disjunctions inner.closed) ++ []) []) (sym (row_marks_push inner.rows (row, n)))
-        (adds_row kinds n (Some inner.mark) (row_marks inner.rows) (disjunction_marks (disjunctions inner.closed) ++ []) [] is (ap (λ (st : List ℕ). same_owner (Some inner.mark) (first_of st)) h.lines ∙ same_self (Some inner.mark)) h.block.0),
+    subst (λ (rs : List ℕ). Has kinds (suc n) (Some inner.mark) rs (prop_marks inner.props) (disjunction_marks (disjunctions inner.closed) ++ []) []) (sym (row_marks_push inner.rows (row, n)))
+        (adds_row kinds n (Some inner.mark) (row_marks inner.rows) (prop_marks inner.props) (disjunction_marks (disjunctions inner.closed) ++ []) [] is (ap (λ (st : List ℕ). same_owner (Some inner.mark) (first_of st)) h.lines ∙ same_self (Some inner.mark)) h.block.0),
+    disjunctions_later kinds n (disjunctions inner.closed) h.block.1,
+  );
+  choice = tt;
+  around = around_on kinds n inner.mark inner (p ∷ ps) (others kinds n inner.mark (p.1.mark ∷ opening_lines p.0 ps) h.lines) (not_root kinds n inner.mark (p.1.mark ∷ opening_lines p.0 ps) h.lines) (under kinds n inner.mark (p.1.mark ∷ opening_lines p.0 ps) h.lines) h.around;
+}
+
+-- a proposition comes to the innermost block
+pub prop_holds : (kinds : Kinds) (n : ℕ) (inner : OpenBlock) (opened : Option OpenDisjunction) (outer : List (OpenBlock × OpenDisjunction)) (q : PropTree) → kinds n ≡ LogicLine → is_some opened ≡ false
+    → Holds kinds n inner opened outer → Holds kinds (suc n) (record inner { props = inner.props ++ (q, n) ∷ [] }) opened outer
+prop_holds kinds n inner (Some d) outer q is none h = absurd (cc none)
+prop_holds kinds n inner None [] q is none h = record {
+  nested = no_end kinds n LogicLine is refl h.nested;
+  lines = open_next kinds n LogicLine [] is h.lines;
+  block = (
+    subst (λ (qs : List ℕ). Has kinds (suc n) None (row_marks inner.rows) qs (disjunction_marks (disjunctions inner.closed) ++ []) []) (sym (prop_marks_push inner.props (q, n)))
+        (adds_prop kinds n None (row_marks inner.rows) (prop_marks inner.props) (disjunction_marks (disjunctions inner.closed) ++ []) [] is (ap (λ (st : List ℕ). same_owner None (first_of st)) h.lines) h.block.0),
+    disjunctions_later kinds n (disjunctions inner.closed) h.block.1,
+  );
+  choice = tt;
+  around = tt;
+}
+prop_holds kinds n inner None (p ∷ ps) q is none h = record {
+  nested = no_end kinds n LogicLine is refl h.nested;
+  lines = open_next kinds n LogicLine (inner.mark ∷ p.1.mark ∷ opening_lines p.0 ps) is h.lines;
+  block = (
+    subst (λ (qs : List ℕ). Has kinds (suc n) (Some inner.mark) (row_marks inner.rows) qs (disjunction_marks (disjunctions inner.closed) ++ []) []) (sym (prop_marks_push inner.props (q, n)))
+        (adds_prop kinds n (Some inner.mark) (row_marks inner.rows) (prop_marks inner.props) (disjunction_marks (disjunctions inner.closed) ++ []) [] is (ap (λ (st : List ℕ). same_owner (Some inner.mark) (first_of st)) h.lines ∙ same_self (Some inner.mark)) h.block.0),
     disjunctions_later kinds n (disjunctions inner.closed) h.block.1,
   );
   choice = tt;
@@ -193,11 +221,11 @@ row_holds kinds n inner None (p ∷ ps) row is none h = record {
 }
 
 -- what is pending comes after what is closed
-pend_disjunction : (kinds : Kinds) (n m : ℕ) (whose : Option ℕ) (rows ds : List ℕ) → Has kinds n whose rows ((ds ++ []) ++ m ∷ []) [] → Has kinds n whose rows (ds ++ m ∷ []) []
-pend_disjunction kinds n m whose rows ds has = subst (λ (xs : List ℕ). Has kinds n whose rows (xs ++ m ∷ []) []) (append-nil ds) has
+pend_disjunction : (kinds : Kinds) (n m : ℕ) (whose : Option ℕ) (rows qs ds : List ℕ) → Has kinds n whose rows qs ((ds ++ []) ++ m ∷ []) [] → Has kinds n whose rows qs (ds ++ m ∷ []) []
+pend_disjunction kinds n m whose rows qs ds has = subst (λ (xs : List ℕ). Has kinds n whose rows qs (xs ++ m ∷ []) []) (append-nil ds) has
 
-pend_disjunct : (kinds : Kinds) (n m : ℕ) (whose : Option ℕ) (js : List ℕ) → Has kinds n whose [] [] ((js ++ []) ++ m ∷ []) → Has kinds n whose [] [] (js ++ m ∷ [])
-pend_disjunct kinds n m whose js has = subst (λ (xs : List ℕ). Has kinds n whose [] [] (xs ++ m ∷ [])) (append-nil js) has
+pend_disjunct : (kinds : Kinds) (n m : ℕ) (whose : Option ℕ) (js : List ℕ) → Has kinds n whose [] [] [] ((js ++ []) ++ m ∷ []) → Has kinds n whose [] [] [] (js ++ m ∷ [])
+pend_disjunct kinds n m whose js has = subst (λ (xs : List ℕ). Has kinds n whose [] [] [] (xs ++ m ∷ [])) (append-nil js) has
 
 -- a disjunction is opened in the innermost block
 pub disjunction_holds : (kinds : Kinds) (n : ℕ) (inner : OpenBlock) (opened : Option OpenDisjunction) (outer : List (OpenBlock × OpenDisjunction)) (mode : Mode) → kinds n ≡ DisjunctionLine → is_some opened ≡ false
@@ -207,8 +235,8 @@ disjunction_holds kinds n inner None [] mode is none h = record {
   nested = no_end kinds n DisjunctionLine is refl h.nested;
   lines = open_next kinds n DisjunctionLine [] is h.lines;
   block = (
-    pend_disjunction kinds (suc n) n None (row_marks inner.rows) (disjunction_marks (disjunctions inner.closed))
-        (adds_disjunction kinds n None (row_marks inner.rows) (disjunction_marks (disjunctions inner.closed) ++ []) [] is (ap (λ (st : List ℕ). same_owner None (first_of st)) h.lines) h.block.0),
+    pend_disjunction kinds (suc n) n None (row_marks inner.rows) (prop_marks inner.props) (disjunction_marks (disjunctions inner.closed))
+        (adds_disjunction kinds n None (row_marks inner.rows) (prop_marks inner.props) (disjunction_marks (disjunctions inner.closed) ++ []) [] is (ap (λ (st : List ℕ). same_owner None (first_of st)) h.lines) h.block.0),
     disjunctions_later kinds n (disjunctions inner.closed) h.block.1,
   );
   choice = (new_owner kinds n, tt);
@@ -218,8 +246,8 @@ disjunction_holds kinds n inner None (p ∷ ps) mode is none h = record {
   nested = no_end kinds n DisjunctionLine is refl h.nested;
   lines = open_next kinds n DisjunctionLine (inner.mark ∷ p.1.mark ∷ opening_lines p.0 ps) is h.lines;
   block = (
-    pend_disjunction kinds (suc n) n (Some inner.mark) (row_marks inner.rows) (disjunction_marks (disjunctions inner.closed))
-        (adds_disjunction kinds n (Some inner.mark) (row_marks inner.rows) (disjunction_marks (disjunctions inner.closed) ++ []) [] is (ap (λ (st : List ℕ). same_owner (Some inner.mark) (first_of st)) h.lines ∙ same_self (Some inner.mark)) h.block.0),
+    pend_disjunction kinds (suc n) n (Some inner.mark) (row_marks inner.rows) (prop_marks inner.props) (disjunction_marks (disjunctions inner.closed))
+        (adds_disjunction kinds n (Some inner.mark) (row_marks inner.rows) (prop_marks inner.props) (disjunction_marks (disjunctions inner.closed) ++ []) [] is (ap (λ (st : List ℕ). same_owner (Some inner.mark) (first_of st)) h.lines ∙ same_self (Some inner.mark)) h.block.0),
     disjunctions_later kinds n (disjunctions inner.closed) h.block.1,
   );
   choice = (new_owner kinds n, tt);
@@ -239,7 +267,7 @@ disjunct_holds kinds n id inner d outer is h =
       around = (
         (
           pend_disjunct kinds (suc n) n (Some d.mark) (disjunct_marks (disjuncts d.closed))
-              (adds_disjunct kinds n (Some d.mark) [] [] (disjunct_marks (disjuncts d.closed) ++ []) is (ap (λ (st : List ℕ). same_owner (Some d.mark) (first_of st)) h.lines ∙ same_self (Some d.mark)) h.choice.0),
+              (adds_disjunct kinds n (Some d.mark) [] [] [] (disjunct_marks (disjuncts d.closed) ++ []) is (ap (λ (st : List ℕ). same_owner (Some d.mark) (first_of st)) h.lines ∙ same_self (Some d.mark)) h.choice.0),
           disjuncts_later kinds n (disjuncts d.closed) h.choice.1,
         ),
         inner_on kinds n d.mark inner outer (d.mark ∷ []) (others kinds n d.mark below h.lines) (not_root kinds n d.mark below h.lines) (under kinds n d.mark below h.lines) h.block,
@@ -249,7 +277,7 @@ disjunct_holds kinds n id inner d outer is h =
 
 -- by an `end` line each owner keeps what it has
 keeps_by_end : (kinds : Kinds) (n : ℕ) → kinds n ≡ EndLine → (o : Option ℕ) → Keeps kinds n o
-keeps_by_end kinds n is o = keep_kind kinds n o (ap is_row is) (ap is_disjunction is) (ap is_disjunct is)
+keeps_by_end kinds n is o = keep_kind kinds n o (ap is_row is) (ap is_logic is) (ap is_disjunction is) (ap is_disjunct is)
 
 end_nested : (kinds : Kinds) (n j : ℕ) (below : List ℕ) → open_before kinds n ≡ j ∷ below → IsNested kinds n → IsNested kinds (suc n)
 end_nested kinds n j below was nested = nested_on kinds n (λ is. some_depth kinds n j below nested was) nested
@@ -261,10 +289,10 @@ joins_block kinds n inner d whose below is was b c =
     let old : List ℕ = disjunction_marks (disjunctions inner.closed) in
     let marks : disjunction_marks (disjunctions (inner.closed ++ closed_disjunction d ∷ [])) ++ [] ≡ old ++ d.mark ∷ [] =
     append-nil (disjunction_marks (disjunctions (inner.closed ++ closed_disjunction d ∷ []))) ∙ disjunction_marks_push inner.closed (closed_disjunction d) in (
-      subst (λ (xs : List ℕ). Has kinds (suc n) whose (row_marks inner.rows) xs []) (sym marks) (keeps_by_end kinds n is whose (row_marks inner.rows) (old ++ d.mark ∷ []) [] b.0),
+      subst (λ (xs : List ℕ). Has kinds (suc n) whose (row_marks inner.rows) (prop_marks inner.props) xs []) (sym marks) (keeps_by_end kinds n is whose (row_marks inner.rows) (prop_marks inner.props) (old ++ d.mark ∷ []) [] b.0),
       disjunctions_push kinds (suc n) inner.closed (closed_disjunction d) (disjunctions_later kinds n (disjunctions inner.closed) b.1)
           (gone_now kinds n d.mark below was (open_next kinds n EndLine (d.mark ∷ below) is was))
-          (subst (λ (xs : List ℕ). Has kinds (suc n) (Some d.mark) [] [] xs) (append-nil (disjunct_marks (disjuncts d.closed))) (keeps_by_end kinds n is (Some d.mark) [] [] (disjunct_marks (disjuncts d.closed) ++ []) c.0))
+          (subst (λ (xs : List ℕ). Has kinds (suc n) (Some d.mark) [] [] [] xs) (append-nil (disjunct_marks (disjuncts d.closed))) (keeps_by_end kinds n is (Some d.mark) [] [] [] (disjunct_marks (disjuncts d.closed) ++ []) c.0))
           (disjuncts_later kinds n (disjuncts d.closed) c.1),
     )
 
@@ -301,11 +329,11 @@ block_ends kinds n inner p ps is h =
       lines = open_next kinds n EndLine (inner.mark ∷ below) is h.lines;
       block = block_on kinds n p.0 (block_owner p.0 ps) (p.1.mark ∷ []) (keeps_by_end kinds n is (block_owner p.0 ps)) h.around.1;
       choice = (
-        subst (λ (xs : List ℕ). Has kinds (suc n) (Some p.1.mark) [] [] xs) (sym marks) (keeps_by_end kinds n is (Some p.1.mark) [] [] (old ++ inner.mark ∷ []) h.around.0.0),
+        subst (λ (xs : List ℕ). Has kinds (suc n) (Some p.1.mark) [] [] [] xs) (sym marks) (keeps_by_end kinds n is (Some p.1.mark) [] [] [] (old ++ inner.mark ∷ []) h.around.0.0),
         disjuncts_push kinds (suc n) p.1.closed (closed_disjunct inner) (disjuncts_later kinds n (disjuncts p.1.closed) h.around.0.1)
             (gone_now kinds n inner.mark below h.lines (open_next kinds n EndLine (inner.mark ∷ below) is h.lines)) (
-              subst (λ (xs : List ℕ). Has kinds (suc n) (Some inner.mark) (row_marks inner.rows) xs []) (append-nil (disjunction_marks (disjunctions inner.closed)))
-                  (keeps_by_end kinds n is (Some inner.mark) (row_marks inner.rows) (disjunction_marks (disjunctions inner.closed) ++ []) [] h.block.0),
+              subst (λ (xs : List ℕ). Has kinds (suc n) (Some inner.mark) (row_marks inner.rows) (prop_marks inner.props) xs []) (append-nil (disjunction_marks (disjunctions inner.closed)))
+                  (keeps_by_end kinds n is (Some inner.mark) (row_marks inner.rows) (prop_marks inner.props) (disjunction_marks (disjunctions inner.closed) ++ []) [] h.block.0),
               disjunctions_later kinds n (disjunctions inner.closed) h.block.1,
             ),
       );
@@ -315,7 +343,7 @@ block_ends kinds n inner p ps is h =
 -- where the root alone is open, its block is nested as the lines are
 pub root_nested : (kinds : Kinds) (n : ℕ) (inner : OpenBlock) → Holds kinds n inner None [] → IsBlockOf kinds n None (closed_block inner)
 root_nested kinds n inner h = (
-  owns kinds n None (row_marks inner.rows) (disjunction_marks (disjunctions inner.closed)) [] h.nested
-      (subst (λ (xs : List ℕ). Has kinds n None (row_marks inner.rows) xs []) (append-nil (disjunction_marks (disjunctions inner.closed))) h.block.0),
+  owns kinds n None (row_marks inner.rows) (prop_marks inner.props) (disjunction_marks (disjunctions inner.closed)) [] h.nested
+      (subst (λ (xs : List ℕ). Has kinds n None (row_marks inner.rows) (prop_marks inner.props) xs []) (append-nil (disjunction_marks (disjunctions inner.closed))) h.block.0),
   disjunctions_nested kinds n (disjunctions inner.closed) h.nested h.block.1,
 )

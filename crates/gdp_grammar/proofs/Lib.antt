@@ -1,4 +1,5 @@
 pub mod Again
+pub mod Contexts
 pub mod Cutting
 pub mod Euclid
 pub mod Fed
@@ -21,6 +22,7 @@ pub mod PointNames
 pub mod PointOnce
 pub mod Printed
 pub mod Printouts
+pub mod PropsLead
 pub mod Rebuilt
 pub mod Respelled
 pub mod Scales

@@ -19,10 +19,9 @@ use Rattle.block_tree.specs.Building.{BuildingValue}
 use Rattle.block_tree.specs.Names.{begins_name, continues_name, is_digit, is_name, has_name, has_name_shape, reserved_words}
 use Rattle.block_tree.specs.Variables.{VarValue}
 use Rattle.gdp_grammar.specs.declared.cause.ReadCause.{ReadCause}
-use Rattle.gdp_grammar.specs.declared.cause.ReadCause.TheVariants.{NotBuilt}
 use Rattle.gdp_grammar.specs.Canonical.{spaced, line_of, size_word, number_word, sign_word, end_word, kind_word, rel_word, sense_word, var_line, name_in, further_terms, sum_words, constant_words, goal_words, disjunction_line}
-use Rattle.gdp_grammar.specs.Causes.{◌>>=◌, refuse_if}
-use Rattle.gdp_grammar.specs.Forms.{Form, form_of, form_after, is_logic}
+use Rattle.gdp_grammar.specs.Causes.{◌>>=◌}
+use Rattle.gdp_grammar.specs.Forms.{Form, form_of}
 use Rattle.gdp_grammar.specs.Lines.{without_comment}
 use Rattle.gdp_grammar.specs.Reading.{Taken, with_form, with_tokens, with_content, with_line}
 use Rattle.gdp_grammar.specs.Spelling.{Leads}
@@ -33,23 +32,6 @@ use Rattle.gdp_grammar.proofs.LinesAgain.{IsShort, IsEndShort, AreTermsAgain}
 -- after the header
 abbrev pub headed : BuildingValue → Taken
 headed b = record { headed = true; building = b }
-
--- a line that has a form begins with no `logic`
-logic_word : (word : List ℕ) (ps : List Piece) (form : Form) → form_after word ps ≡ Ok form → bytes_eq word (codes "logic") ≡ false
-logic_word word ps form e = go (bytes_eq word (codes "logic")) refl
-  where
-    go : (b : Bool) → bytes_eq word (codes "logic") ≡ b → bytes_eq word (codes "logic") ≡ false
-    go false q = q
-    go true q =
-        let is : word ≡ codes "logic" = (bytes_eq-Decides word (codes "logic")).0 q in
-        absurd (cc (sym (ap (λ w. form_after w ps) is) ∙ e))
-
-no_logic : (ps : List Piece) (form : Form) → form_of ps ≡ Ok form → is_logic ps ≡ false
-no_logic [] form e = refl
-no_logic (Word word ∷ ps) form e = logic_word word ps form e
-no_logic (Number n ∷ ps) form e = refl
-no_logic (Mark s ∷ ps) form e = refl
-no_logic (Stray ∷ ps) form e = refl
 
 tokens_lead : (b next : BuildingValue) (line : ℕ) (ps : List Piece) (form : Form) → form_of ps ≡ Ok form → with_form b line form ≡ Ok next → with_tokens (headed b) line ps ≡ Ok (headed next)
 tokens_lead b next line [] form e f = absurd (cc e)
@@ -64,9 +46,7 @@ pub line_lead : (b next : BuildingValue) (line : ℕ) (bytes : List ℕ) (form :
 unfolding with_line
 line_lead b next line bytes form printed e f =
     let same : without_comment bytes ≡ bytes = without_comment_again bytes printed in
-    ap (λ c. refuse_if (is_logic (tokens_of c)) NotBuilt >>= (λ built. with_content (headed b) line c)) same
-    ∙ ap (λ t. refuse_if t NotBuilt >>= (λ built. with_content (headed b) line bytes)) (no_logic (tokens_of bytes) form e)
-    ∙ tokens_lead b next line (tokens_of bytes) form e f
+    ap (λ c. with_content (headed b) line c) same ∙ tokens_lead b next line (tokens_of bytes) form e f
 
 -- lines after lines
 pub leads_then : (line after : ℕ) (xs ys : List (List ℕ)) (a b c : Taken) → after ≡ line + length xs → Leads line a xs b → Leads after b ys c → Leads line a (xs ++ ys) c

@@ -14,6 +14,7 @@ use Rattle.block_tree.specs.declared.errors.BuildError.{BuildError}
 use Rattle.block_tree.specs.declared.errors.BuildError.TheVariants as refusal
 use Rattle.block_tree.specs.Building.{BuildingValue, OpenBlock, OpenDisjunction, empty_block, is_empty, is_at_root, is_taken, refusal_of_var, refusal_of_row, stored_row, built_model}
 use Rattle.block_tree.specs.Nesting.{refusal_of_boolean, refusal_of_goal, stored_goal, refusal_of_disjunct, with_disjunct, open_disjunct_in, closed_disjunct, closed_disjunction, close_disjunct, close_opened}
+use Rattle.block_tree.specs.Props.{refusal_of_prop}
 use Rattle.block_tree.specs.Values.{ModelTree}
 use Rattle.gdp_grammar.specs.declared.cause.ReadCause.{ReadCause}
 use Rattle.gdp_grammar.specs.declared.cause.ReadCause.TheVariants as cause
@@ -21,16 +22,18 @@ use Rattle.gdp_grammar.specs.declared.class.Class.TheVariants as class
 use Rattle.gdp_grammar.specs.Causes.{refuse_if}
 use Rattle.gdp_grammar.specs.Classes.{belongs, front, rest}
 use Rattle.gdp_grammar.specs.Declaring.{form_on}
-use Rattle.gdp_grammar.specs.Forms.{Form, Var, Boolean, Goal, Row, Disjunction, Disjunct, End, Signed, Summand, form_of, is_logic}
+use Rattle.gdp_grammar.specs.Forms.{Form, Var, Boolean, Goal, Row, Logic, Disjunction, Disjunct, End, Signed, Summand, form_of}
 use Rattle.gdp_grammar.specs.Lines.{lines_of, without_comment}
 use Rattle.gdp_grammar.specs.Nested.{IsBlockOf, NestedAsSpelled}
 use Rattle.gdp_grammar.specs.Numerals.{value_of}
 use Rattle.gdp_grammar.specs.Owners.{Kinds, OtherLine, kind_in, kinds_from, kinds_of}
-use Rattle.gdp_grammar.specs.Reading.{Taken, nothing_taken, or_cause, end_of, after_call, with_var, terms_of, constant_value, with_goal, with_row, with_form, is_header, with_header, with_tokens, with_content, with_line, finished, model_after}
+use Rattle.gdp_grammar.specs.PropNames.{are_known, tree_in}
+use Rattle.gdp_grammar.specs.PropReading.{prop_of}
+use Rattle.gdp_grammar.specs.Reading.{Taken, nothing_taken, or_cause, end_of, after_call, with_var, terms_of, constant_value, with_goal, with_row, with_logic, with_form, is_header, with_header, with_tokens, with_content, with_line, finished, model_after}
 use Rattle.gdp_grammar.specs.Spelling.{Leads}
 use Rattle.gdp_grammar.specs.Tokens.{Piece, token_of, tokens_of}
 use Rattle.gdp_grammar.specs.Words.{words_of}
-use Rattle.gdp_grammar.proofs.Holding.{Holds, holds_nothing, other_holds, row_holds, disjunction_holds, disjunct_holds, choice_ends, block_ends, root_nested}
+use Rattle.gdp_grammar.proofs.Holding.{Holds, holds_nothing, other_holds, row_holds, prop_holds, disjunction_holds, disjunct_holds, choice_ends, block_ends, root_nested}
 use Rattle.gdp_grammar.proofs.Pieces.{no_tokens, first_token, no_words, first_word}
 use Rattle.gdp_grammar.proofs.Sums.{bind_ok}
 
@@ -86,6 +89,16 @@ row_built kinds n b new sum rel right is h e =
     subst (λ (x : BuildingValue). Built kinds (suc n) x) (called (refusal_of_row terms.0 number.0 b) b tt made new number.2)
     (row_holds kinds n b.inner b.opened b.outer row is (passed (is_some b.opened) cause.Form place.0 place.1) h)
 
+logic_built : (kinds : Kinds) (n : ℕ) (b new : BuildingValue) (tokens : List Piece) → kinds n ≡ kind_in (Ok (Logic tokens)) → Built kinds n b → with_logic b n tokens ≡ Ok new → Built kinds (suc n) new
+unfolding with_logic
+logic_built kinds n b new tokens is h e =
+    let place = bind_ok (refuse_if (is_some b.opened) cause.Form) _ new e in
+    let p = bind_ok (prop_of tokens) _ new place.2 in
+    let known = bind_ok (refuse_if (not (are_known b.booleans p.0)) cause.NameUnknown) _ new p.2 in
+    let made : BuildingValue = record b { inner = record b.inner { props = b.inner.props ++ (tree_in b.booleans p.0, n) ∷ [] } } in
+    subst (λ (x : BuildingValue). Built kinds (suc n) x) (called (refusal_of_prop (tree_in b.booleans p.0) b) b tt made new known.2)
+    (prop_holds kinds n b.inner b.opened b.outer (tree_in b.booleans p.0) is (passed (is_some b.opened) cause.Form place.0 place.1) h)
+
 disjunct_built : (kinds : Kinds) (n : ℕ) (b new : BuildingValue) (name : List ℕ) (o : Option OpenDisjunction) → kinds n ≡ kind_in (Ok (Disjunct name)) → Holds kinds n b.inner o b.outer → after_call (open_disjunct_in o name n b) ≡ Ok new → Built kinds (suc n) new
 disjunct_built kinds n b new name None is h e = absurd (cc e)
 disjunct_built kinds n b new name (Some d) is h e =
@@ -115,6 +128,7 @@ form_built kinds n b new (Boolean name) is h e =
     same_open kinds n b made new is h (called (refusal_of_boolean name b) b (length b.booleans) made new e)
 form_built kinds n b new (Goal sense sum constant) is h e = goal_built kinds n b new sense sum constant is h e
 form_built kinds n b new (Row sum rel right) is h e = row_built kinds n b new sum rel right is h e
+form_built kinds n b new (Logic tokens) is h e = logic_built kinds n b new tokens is h e
 form_built kinds n b new (Disjunction mode) is h e =
     let made : BuildingValue = record b { opened = Some (record { mode = mode; mark = n; closed = [] }) } in
     subst (λ (x : BuildingValue). Built kinds (suc n) x) (called (build_refuse_if (is_some b.opened) refusal.Place None) b tt made new e)
@@ -194,7 +208,7 @@ header_built kinds n t next content (w ∷ ws) are is h e =
 
 line_built : (kinds : Kinds) (n : ℕ) (t next : Taken) (l : List ℕ) → kinds n ≡ kind_in (form_on l) → Built kinds n t.building → with_line t n l ≡ Ok next → Built kinds (suc n) next.building
 unfolding with_line
-line_built kinds n t next l is h e = go t.headed refl (bind_ok (refuse_if (is_logic (tokens_of (without_comment l))) cause.NotBuilt) _ next e).2
+line_built kinds n t next l is h e = go t.headed refl e
   where
     go : (b : Bool) → t.headed ≡ b → with_content t n (without_comment l) ≡ Ok next → Built kinds (suc n) next.building
     go true on e = tokens_built kinds n t next (tokens_of (without_comment l)) is h (sym (cond-true t.headed _ _ on) ∙ e)

@@ -2,7 +2,7 @@
 use Rattle.std.proofs.Common.{◌≡◌, ℕ, zero, suc, ◌<◌, ◌≤◌, Bool, true, false, List, [], ◌∷◌, Option, Some, None, refl, ap, sym, subst, ◌∙◌, ◌⊎◌, inl, inr, arith}
 use Rattle.std.proofs.lemmas.Bool.{cond-true, cond-false}
 use Rattle.gdp_grammar.specs.Stacks.{open_after, open_before, first_of, OwnerFound}
-use Rattle.gdp_grammar.specs.Owners.{LineKind, RowLine, DisjunctionLine, DisjunctLine, EndLine, OtherLine, Kinds, opens, is_end, count_before, depth, IsClosed, AllClosed, IsOwner, IsNested, OneOwner}
+use Rattle.gdp_grammar.specs.Owners.{LineKind, RowLine, LogicLine, DisjunctionLine, DisjunctLine, EndLine, OtherLine, Kinds, opens, is_end, count_before, depth, IsClosed, AllClosed, IsOwner, IsNested, OneOwner}
 
 -- less, equal or greater
 compared : (a b : ℕ) → (a < b) ⊎ ((a ≡ b) ⊎ (b < a))
@@ -104,6 +104,7 @@ opened_stands kinds st n o deeper s = (
 
 end_opens_not : (k : LineKind) → is_end k ≡ true → opens k ≡ false
 end_opens_not RowLine e = absurd (cc e)
+end_opens_not LogicLine e = absurd (cc e)
 end_opens_not DisjunctionLine e = absurd (cc e)
 end_opens_not DisjunctLine e = absurd (cc e)
 end_opens_not EndLine e = refl
@@ -111,6 +112,7 @@ end_opens_not OtherLine e = absurd (cc e)
 
 not_both : (k : LineKind) → opens k ≡ true → is_end k ≡ true → ⊥
 not_both RowLine o e = absurd (cc o)
+not_both LogicLine o e = absurd (cc o)
 not_both DisjunctionLine o e = absurd (cc e)
 not_both DisjunctLine o e = absurd (cc e)
 not_both EndLine o e = absurd (cc o)
@@ -186,6 +188,7 @@ balanced kinds (suc n) nested = go (kinds n) refl (balanced kinds n (nested_befo
   where
     go : (k : LineKind) → kinds n ≡ k → count_before is_end kinds n ≤ count_before opens kinds n → count_before is_end kinds (suc n) ≤ count_before opens kinds (suc n)
     go RowLine is less = omega (arith, less, count_same is_end kinds n (ap is_end is), count_same opens kinds n (ap opens is))
+    go LogicLine is less = omega (arith, less, count_same is_end kinds n (ap is_end is), count_same opens kinds n (ap opens is))
     go DisjunctionLine is less = omega (arith, less, count_same is_end kinds n (ap is_end is), count_more opens kinds n (ap opens is))
     go DisjunctLine is less = omega (arith, less, count_same is_end kinds n (ap is_end is), count_more opens kinds n (ap opens is))
     go EndLine is less = omega (arith, less, count_more is_end kinds n (ap is_end is), count_same opens kinds n (ap opens is), nested n (omega arith) (ap is_end is))
@@ -194,6 +197,7 @@ balanced kinds (suc n) nested = go (kinds n) refl (balanced kinds n (nested_befo
 stands_after : (kinds : Kinds) (n : ℕ) (k : LineKind) → kinds n ≡ k → count_before is_end kinds n ≤ count_before opens kinds n
     → (is_end (kinds n) ≡ true → 0 < depth kinds n) → (st : List ℕ) → Stands kinds st n → Stands kinds (open_after k n st) (suc n)
 stands_after kinds n RowLine is less some st s = still_stands kinds st n (ap opens is) (ap is_end is) (omega (arith, count_same is_end kinds n (ap is_end is), count_same opens kinds n (ap opens is))) s
+stands_after kinds n LogicLine is less some st s = still_stands kinds st n (ap opens is) (ap is_end is) (omega (arith, count_same is_end kinds n (ap is_end is), count_same opens kinds n (ap opens is))) s
 stands_after kinds n DisjunctionLine is less some st s = opened_stands kinds st n (ap opens is) (omega (arith, less, count_same is_end kinds n (ap is_end is), count_more opens kinds n (ap opens is))) s
 stands_after kinds n DisjunctLine is less some st s = opened_stands kinds st n (ap opens is) (omega (arith, less, count_same is_end kinds n (ap is_end is), count_more opens kinds n (ap opens is))) s
 stands_after kinds n EndLine is less some [] s = absurd (omega (arith, s.flat, some (ap is_end is)))

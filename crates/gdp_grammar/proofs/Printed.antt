@@ -5,8 +5,8 @@ use Rattle.block_tree.specs.declared.tree.Disjunction.{Disjunction}
 use Rattle.block_tree.specs.Tree.{DisjunctHead, BlockTree, block, below, below_disjunctions, below_disjuncts}
 use Rattle.std.proofs.lemmas.List.{map-append}
 use Rattle.block_tree.specs.Values.{ModelTree}
-use Rattle.block_tree.specs.View.{disjuncts_of, disjunctions_of, disjunct_of, disjunction_of, rows_in, disjunctions_in}
-use Rattle.gdp_grammar.specs.Canonical.{spaced, text_of, disjunctions_lines, disjuncts_lines, lines_of_disjunction, lines_of_disjunct, disjunction_line, disjunct_line, block_lines, numbers_of, row_line, var_line, boolean_line, free_booleans, goal_line, canonical_lines}
+use Rattle.block_tree.specs.View.{disjuncts_of, disjunctions_of, disjunct_of, disjunction_of, rows_in, props_in, disjunctions_in}
+use Rattle.gdp_grammar.specs.Canonical.{spaced, text_of, disjunctions_lines, disjuncts_lines, lines_of_disjunction, lines_of_disjunct, disjunction_line, disjunct_line, block_lines, numbers_of, row_line, logic_line, var_line, boolean_line, free_booleans, goal_line, canonical_lines}
 
 pub text_appended : (xs ys : List (List ℕ)) → text_of (xs ++ ys) ≡ text_of xs ++ text_of ys
 text_appended [] ys = refl
@@ -50,9 +50,12 @@ pub below_disjuncts_at : (js : List Disjunct) (i : ℕ) (j : Disjunct) → i < l
 below_disjuncts_at js i j h e =
     rw (add-one, drop-cons js i j, ← e) (ap (λ t. (disjunct_of j).0.indicator ∷ t) (numbers_appended (below (disjunct_of j).1) (below_disjuncts (disjuncts_of (drop (suc i) js)))))
 
--- the text of a block: its rows, and then its disjunctions
-pub block_text : (m : ModelTree) (b : BlockTree) → text_of (block_lines m b) ≡ text_of (map (row_line m) (rows_in b)) ++ text_of (disjunctions_lines m (disjunctions_in b))
-block_text m (block items ds) = text_appended (map (row_line m) items.rows) (disjunctions_lines m ds)
+-- the text of a block: its rows, then its disjunctions, and then its propositions
+pub block_text : (m : ModelTree) (b : BlockTree)
+    → text_of (block_lines m b) ≡ text_of (map (row_line m) (rows_in b)) ++ (text_of (disjunctions_lines m (disjunctions_in b)) ++ text_of (map (logic_line m) (props_in b)))
+block_text m (block items ds) =
+    text_appended (map (row_line m) items.rows) (disjunctions_lines m ds ++ map (logic_line m) items.props)
+    ∙ ap (λ t. text_of (map (row_line m) items.rows) ++ t) (text_appended (disjunctions_lines m ds) (map (logic_line m) items.props))
 
 -- the text of a line, of others, and of an end
 pub framed_text : (line : List ℕ) (lines : List (List ℕ)) → text_of (line ∷ lines ++ codes "end" ∷ []) ≡ line ++ 10 ∷ (text_of lines ++ (codes "end" ++ 10 ∷ []))

@@ -11,6 +11,7 @@ use Rattle.lp_rows.specs.Holding.{ids_below}
 use Rattle.lp_rows.specs.Rows.{row_refusal, is_storable}
 use Rattle.block_tree.proofs.Keeping as keeping
 use Rattle.block_tree.specs.declared.bounds.Bound.{Bound}
+use Rattle.block_tree.specs.Earlier.{names_earlier}
 use Rattle.block_tree.specs.Building.{BuildingValue, empty_block, new_building, is_empty, is_taken, is_bound, is_end_small, are_crossed, built_model}
 use Rattle.block_tree.specs.Names.{has_name, is_name}
 use Rattle.block_tree.specs.Sound.{IsSound, IsEndLowest, AreEndsLowest, are_names, are_bounds, is_goal_sound, IsScaleLeast, are_last_of}
@@ -34,7 +35,8 @@ use Rattle.gdp_grammar.proofs.LinesLead.{headed, line_lead, leads_then, leads_to
 use Rattle.gdp_grammar.proofs.Once.{one_model}
 use Rattle.gdp_grammar.proofs.Unmarked.{canonical_ignores_marks}
 use Rattle.gdp_grammar.proofs.Rebuilt.{IsEndFit, end_short, fit_short, terms_read}
-use Rattle.gdp_grammar.proofs.TreeLead.{IsContext, in_block, AreFirst, block_lead, name_at, name_among, fresh, booleans_length, names_length}
+use Rattle.gdp_grammar.proofs.Contexts.{IsContext, in_block, AreFirst, booleans_length, names_length}
+use Rattle.gdp_grammar.proofs.TreeLead.{block_lead, name_at, name_among, fresh}
 
 -- variables that follow one another
 vars_at : ℕ → List VarValue → List VarValue
@@ -362,8 +364,10 @@ whole m sound stored =
       left = omega (arith, bs_length, ap length (append-nil heads), heads_in);
     } in
     let ctx : IsContext m vs = record { vars = vars_same; var_names_differ = differ; differ = sound.names; few = sound.few_booleans } in
-    let t = block_lead m vs (Some g.goal) bs (empty_block 0 0) [] (line3 + 1) m.root [] ctx first (omega (arith, sound.few_rows)) sound.shallow sound.root stored in
-    let last : BuildingValue = in_block vs (Some g.goal) (bs ++ t.more) (record (empty_block 0 0) { rows = t.rows; closed = t.closed }) [] in
+    let earlier : names_earlier (length bs + length heads) m.root ≡ true =
+    ap (λ x. names_earlier x m.root) (omega (arith, bs_length, heads_in)) ∙ sound.earlier in
+    let t = block_lead m vs (Some g.goal) bs (empty_block 0 0) [] (line3 + 1) m.root [] ctx first (omega (arith, sound.few_rows)) (omega (arith, sound.few_nodes)) sound.shallow sound.root stored earlier in
+    let last : BuildingValue = in_block vs (Some g.goal) (bs ++ t.more) (record (empty_block 0 0) { rows = t.rows; props = t.props; closed = t.closed }) [] in
     let tail : Leads line3 (headed (declared vs None bs)) (goal_line m ∷ block_lines m m.root) (headed last) = (headed (declared vs (Some g.goal) bs), g.leads, t.leads) in
     let middle : Leads line2 (headed (declared vs None [])) (map boolean_line free ++ goal_line m ∷ block_lines m m.root) (headed last) =
     leads_then line2 line3 (map boolean_line free) (goal_line m ∷ block_lines m m.root) _ _ _ refl b.leads tail in
@@ -384,9 +388,9 @@ whole m sound stored =
       spelled = built_model last;
       spells = (headed last, subst (λ ls. Leads 1 nothing_taken ls (headed last)) (sym lines) all, finish_lead last refl refl some);
       same =
-          ap (λ x. record { vars = x; booleans = unmarked_booleans (bs ++ t.more); goal = unmarked_goal g.goal; root = unmarked_block (block (record { rows = t.rows }) (disjunctions t.closed)) }) (vars_at_same 2 m.vars)
-          ∙ ap (λ x. record { vars = unmarked_vars m.vars; booleans = x; goal = unmarked_goal g.goal; root = unmarked_block (block (record { rows = t.rows }) (disjunctions t.closed)) }) booleans_same
-          ∙ ap (λ x. record { vars = unmarked_vars m.vars; booleans = unmarked_booleans m.booleans; goal = x; root = unmarked_block (block (record { rows = t.rows }) (disjunctions t.closed)) }) g.same
+          ap (λ x. record { vars = x; booleans = unmarked_booleans (bs ++ t.more); goal = unmarked_goal g.goal; root = unmarked_block (block (record { rows = t.rows; props = t.props }) (disjunctions t.closed)) }) (vars_at_same 2 m.vars)
+          ∙ ap (λ x. record { vars = unmarked_vars m.vars; booleans = x; goal = unmarked_goal g.goal; root = unmarked_block (block (record { rows = t.rows; props = t.props }) (disjunctions t.closed)) }) booleans_same
+          ∙ ap (λ x. record { vars = unmarked_vars m.vars; booleans = unmarked_booleans m.booleans; goal = x; root = unmarked_block (block (record { rows = t.rows; props = t.props }) (disjunctions t.closed)) }) g.same
           ∙ ap (λ x. record { vars = unmarked_vars m.vars; booleans = unmarked_booleans m.booleans; goal = unmarked_goal m.goal; root = x }) t.same;
     }
 

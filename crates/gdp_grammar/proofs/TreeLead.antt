@@ -6,47 +6,33 @@ use Rattle.std.proofs.lemmas.Bool.Decides.{nat_tests}
 use Rattle.std.proofs.lemmas.List.{map-append}
 use Rattle.lp_rows.specs.Holding.{ids_below}
 use Rattle.lp_rows.specs.Rows.{RowValue, row_refusal}
+use Rattle.propositions.specs.Sizes.{node_count_of}
+use Rattle.propositions.specs.Tree.{PropTree}
+use Rattle.block_tree.specs.Earlier.{declared_by_end, name_only_first, names_earlier, disjunctions_name_earlier, disjuncts_name_earlier}
+use Rattle.block_tree.specs.Props.{nodes_so_far}
 use Rattle.block_tree.specs.Building.{BuildingValue, OpenBlock, OpenDisjunction, empty_block, is_empty, rows_so_far, closed_block}
 use Rattle.block_tree.specs.Names.{has_name, is_name}
 use Rattle.block_tree.specs.Nesting.{closed_disjunct, closed_disjunction}
-use Rattle.block_tree.specs.Sound.{are_names, are_rows_below, is_filled, is_block_sound, are_disjunctions_sound, are_disjuncts_sound, is_shallow, are_disjunctions_shallow, are_disjuncts_shallow, are_last_of}
-use Rattle.block_tree.specs.Tree.{DisjunctHead, DisjunctionHead, BlockTree, block, Disjunctions, no_disjunctions, disjunction, Disjuncts, no_disjuncts, disjunct, row_count, row_count_below, row_count_within, below, below_disjunctions, below_disjuncts}
+use Rattle.block_tree.specs.Sound.{are_names, are_rows_below, are_props_sound, is_filled, is_block_sound, are_disjunctions_sound, are_disjuncts_sound, is_shallow, are_disjunctions_shallow, are_disjuncts_shallow, are_last_of}
+use Rattle.block_tree.specs.Tree.{DisjunctHead, DisjunctionHead, BlockTree, block, Disjunctions, no_disjunctions, disjunction, Disjuncts, no_disjuncts, disjunct, row_count, row_count_below, row_count_within, nodes_of_props, node_total, node_total_below, node_total_within, below, below_disjunctions, below_disjuncts}
 use Rattle.block_tree.specs.Values.{GoalValue, ModelTree}
 use Rattle.block_tree.specs.Variables.{VarValue, BooleanValue}
 use Rattle.block_tree.specs.View.{DisjunctTree, DisjunctionTree, disjuncts, disjunctions}
-use Rattle.gdp_grammar.specs.Canonical.{var_names, boolean_names, name_in, terms_over, row_line, disjunction_line, disjunct_line, block_lines, disjunctions_lines, disjuncts_lines}
-use Rattle.gdp_grammar.specs.CanonicalLaws.{unmarked_rows, unmarked_block, unmarked_disjunctions, unmarked_disjuncts, are_rows_stored, is_stored, are_disjunctions_stored, are_disjuncts_stored}
+use Rattle.gdp_grammar.specs.Canonical.{var_names, boolean_names, name_in, terms_over, row_line, logic_line, disjunction_line, disjunct_line, block_lines, disjunctions_lines, disjuncts_lines}
+use Rattle.gdp_grammar.specs.CanonicalLaws.{unmarked_rows, unmarked_props, unmarked_block, unmarked_disjunctions, unmarked_disjuncts, are_rows_stored, is_stored, are_disjunctions_stored, are_disjuncts_stored}
 use Rattle.gdp_grammar.specs.Forms.{Row, Disjunction, Disjunct, End}
 use Rattle.gdp_grammar.specs.Lowest.{over}
 use Rattle.gdp_grammar.specs.Reading.{with_form, with_line}
 use Rattle.gdp_grammar.specs.Spelling.{Leads}
+use Rattle.gdp_grammar.proofs.Contexts.{IsContext, in_block, in_disjunction, AreFirst, names_length, booleans_length}
 use Rattle.gdp_grammar.proofs.Again.{both, and_true, is_printed, are_printed}
 use Rattle.gdp_grammar.proofs.FormsGiven.{row_given, row_whole, terms_fit, fit_over}
 use Rattle.gdp_grammar.proofs.LinesAgain.{row_form_again, disjunction_form_again, disjunct_form_again, end_form_again, summands_for, signed_for}
 use Rattle.gdp_grammar.proofs.LinesLead.{headed, line_lead, leads_then, leads_to, row_printed, disjunction_printed, named_printed, words_appended}
+use Rattle.gdp_grammar.proofs.PropsLead.{props_at, props_at_same, props_lead, props_printed}
 use Rattle.gdp_grammar.proofs.Rebuilt.{fit_short, terms_read, bytes_eq_swap}
 use Rattle.block_tree.proofs.Keeping.{has_append}
 use Rattle.std.specs.Str.{bytes_eq}
-
--- What is declared before the blocks: the variables and the goal of a model whose names differ.
-pub record IsContext (m : ModelTree) (vs : List VarValue) : Type 0 where
-  pub vars : map (λ (v : VarValue). v.0) vs ≡ var_names m
-  pub var_names_differ : are_names (var_names m) ≡ true
-  pub differ : are_names (var_names m ++ boolean_names m) ≡ true
-  pub few : length m.booleans ≤ 200
-
--- the building where a block is innermost, and where a disjunction is
-abbrev pub in_block : List VarValue → Option GoalValue → List BooleanValue → OpenBlock → List (OpenBlock × OpenDisjunction) → BuildingValue
-in_block vs g bs o os = record { vars = vs; booleans = bs; goal = g; inner = o; opened = None; outer = os }
-
-abbrev pub in_disjunction : List VarValue → Option GoalValue → List BooleanValue → OpenBlock → OpenDisjunction → List (OpenBlock × OpenDisjunction) → BuildingValue
-in_disjunction vs g bs o d os = record { vars = vs; booleans = bs; goal = g; inner = o; opened = Some d; outer = os }
-
--- the Booleans so far are the first of the model, and the heads to come are those of the rest
-pub record AreFirst (m : ModelTree) (bs : List BooleanValue) (heads : List DisjunctHead) : Type 0 where
-  pub names : map (λ (b : BooleanValue). b.0) bs ≡ take (length bs) (boolean_names m)
-  pub last : are_last_of (length m.booleans) heads ≡ true
-  pub left : length bs + length heads ≡ length m.booleans
 
 -- rows that follow one another
 pub rows_at : ℕ → List (RowValue × ℕ) → List (RowValue × ℕ)
@@ -72,14 +58,6 @@ no_refusal r p = go (row_refusal r.terms r.right) p
 
 few_rows : (n : ℕ) → n < 1000 → nat_le 1000 n ≡ false
 few_rows n h = grind (arith, nat_tests)
-
-pub names_length : (vs : List VarValue) → length (map (λ (v : VarValue). v.0) vs) ≡ length vs
-names_length [] = refl
-names_length (v ∷ vs) = omega (arith, names_length vs)
-
-pub booleans_length : (bs : List BooleanValue) → length (map (λ (b : BooleanValue). b.0) bs) ≡ length bs
-booleans_length [] = refl
-booleans_length (b ∷ bs) = omega (arith, booleans_length bs)
 
 -- one row leads on
 row_lead : (m : ModelTree) (vs : List VarValue) (g : Option GoalValue) (bs : List BooleanValue) (o : OpenBlock) (os : List (OpenBlock × OpenDisjunction)) (line : ℕ) (r : RowValue × ℕ) → IsContext m vs
@@ -151,6 +129,32 @@ within_same a b e = sym (count_unmarked_within a) ∙ ap row_count_within e ∙ 
 block_count_same : (a b : BlockTree) → unmarked_block a ≡ unmarked_block b → row_count a ≡ row_count b
 block_count_same a b e = sym (count_unmarked a) ∙ ap row_count e ∙ count_unmarked b
 
+unmarked_nodes : (qs : List (PropTree × ℕ)) → nodes_of_props (unmarked_props qs) ≡ nodes_of_props qs
+unmarked_nodes [] = refl
+unmarked_nodes (q ∷ qs) = omega (arith, unmarked_nodes qs)
+
+-- the same without marks has as many nodes
+mutual
+  nodes_unmarked : (b : BlockTree) → node_total (unmarked_block b) ≡ node_total b
+  nodes_unmarked (block items ds) = omega (arith, unmarked_nodes items.props, nodes_unmarked_below ds)
+
+  nodes_unmarked_below : (ds : Disjunctions) → node_total_below (unmarked_disjunctions ds) ≡ node_total_below ds
+  nodes_unmarked_below no_disjunctions = refl
+  nodes_unmarked_below (disjunction head js ds) = omega (arith, nodes_unmarked_within js, nodes_unmarked_below ds)
+
+  nodes_unmarked_within : (js : Disjuncts) → node_total_within (unmarked_disjuncts js) ≡ node_total_within js
+  nodes_unmarked_within no_disjuncts = refl
+  nodes_unmarked_within (disjunct head b js) = omega (arith, nodes_unmarked b, nodes_unmarked_within js)
+
+block_nodes_same : (a b : BlockTree) → unmarked_block a ≡ unmarked_block b → node_total a ≡ node_total b
+block_nodes_same a b e = sym (nodes_unmarked a) ∙ ap node_total e ∙ nodes_unmarked b
+
+below_nodes_same : (a b : Disjunctions) → unmarked_disjunctions a ≡ unmarked_disjunctions b → node_total_below a ≡ node_total_below b
+below_nodes_same a b e = sym (nodes_unmarked_below a) ∙ ap node_total_below e ∙ nodes_unmarked_below b
+
+within_nodes_same : (a b : Disjuncts) → unmarked_disjuncts a ≡ unmarked_disjuncts b → node_total_within a ≡ node_total_within b
+within_nodes_same a b e = sym (nodes_unmarked_within a) ∙ ap node_total_within e ∙ nodes_unmarked_within b
+
 filled_unmarked : (js : Disjuncts) → is_filled (unmarked_disjuncts js) ≡ is_filled js
 filled_unmarked no_disjuncts = refl
 filled_unmarked (disjunct head b js) = refl
@@ -170,6 +174,15 @@ below_appended (x ∷ xs) ys = omega (arith, below_appended xs ys)
 within_appended : (xs ys : List DisjunctTree) → row_count_within (disjuncts (xs ++ ys)) ≡ row_count_within (disjuncts xs) + row_count_within (disjuncts ys)
 within_appended [] ys = omega arith
 within_appended (x ∷ xs) ys = omega (arith, within_appended xs ys)
+
+-- how many nodes they have
+below_nodes_appended : (xs ys : List DisjunctionTree) → node_total_below (disjunctions (xs ++ ys)) ≡ node_total_below (disjunctions xs) + node_total_below (disjunctions ys)
+below_nodes_appended [] ys = omega arith
+below_nodes_appended (x ∷ xs) ys = omega (arith, below_nodes_appended xs ys)
+
+within_nodes_appended : (xs ys : List DisjunctTree) → node_total_within (disjuncts (xs ++ ys)) ≡ node_total_within (disjuncts xs) + node_total_within (disjuncts ys)
+within_nodes_appended [] ys = omega arith
+within_nodes_appended (x ∷ xs) ys = omega (arith, within_nodes_appended xs ys)
 
 -- the heads after others
 last_after : (n : ℕ) (xs ys : List DisjunctHead) → are_last_of n (xs ++ ys) ≡ true → are_last_of n ys ≡ true
@@ -254,9 +267,10 @@ pub record DisjunctsGiven (m : ModelTree) (vs : List VarValue) (g : Option GoalV
 pub record BlockGiven (m : ModelTree) (vs : List VarValue) (g : Option GoalValue) (bs : List BooleanValue) (o : OpenBlock) (os : List (OpenBlock × OpenDisjunction)) (line : ℕ) (b : BlockTree) (later : List DisjunctHead) : Type 0 where
   pub more : List BooleanValue
   pub rows : List (RowValue × ℕ)
+  pub props : List (PropTree × ℕ)
   pub closed : List DisjunctionTree
-  pub leads : Leads line (headed (in_block vs g bs o os)) (block_lines m b) (headed (in_block vs g (bs ++ more) (record o { rows = o.rows ++ rows; closed = o.closed ++ closed }) os))
-  pub same : unmarked_block (block (record { rows = rows }) (disjunctions closed)) ≡ unmarked_block b
+  pub leads : Leads line (headed (in_block vs g bs o os)) (block_lines m b) (headed (in_block vs g (bs ++ more) (record o { rows = o.rows ++ rows; props = o.props ++ props; closed = o.closed ++ closed }) os))
+  pub same : unmarked_block (block (record { rows = rows; props = props }) (disjunctions closed)) ≡ unmarked_block b
   pub printed : are_printed (block_lines m b) ≡ true
   pub firsts : AreFirst m (bs ++ more) later
 
@@ -379,8 +393,8 @@ disjunctions_step m vs g bs o os line after head js ds later at filled r t =
     }
 
 -- the parts of a disjunct put together
-abbrev inside_at : ℕ → List BooleanValue → List (RowValue × ℕ) → List DisjunctionTree → OpenBlock
-inside_at line bs rows closed = record (empty_block (length bs) line) { rows = rows; closed = closed }
+abbrev inside_at : ℕ → List BooleanValue → List (RowValue × ℕ) → List (PropTree × ℕ) → List DisjunctionTree → OpenBlock
+inside_at line bs rows props closed = record (empty_block (length bs) line) { rows = rows; props = props; closed = closed }
 
 abbrev with_disjunct_closed : OpenDisjunction → OpenBlock → OpenDisjunction
 with_disjunct_closed d i = record d { closed = d.closed ++ closed_disjunct i ∷ [] }
@@ -388,12 +402,12 @@ with_disjunct_closed d i = record d { closed = d.closed ++ closed_disjunct i ∷
 disjuncts_step : (m : ModelTree) (vs : List VarValue) (g : Option GoalValue) (bs : List BooleanValue) (o : OpenBlock) (d : OpenDisjunction) (os : List (OpenBlock × OpenDisjunction)) (line after : ℕ) (head : DisjunctHead) (b : BlockTree) (js : Disjuncts) (later : List DisjunctHead)
     → after ≡ line + 1 + length (block_lines m b) → IsNext m vs bs (name_in (boolean_names m) head.indicator) → nat_le 8 (length os) ≡ false → length bs ≡ head.indicator
     → (k : BlockGiven m vs g (bs ++ (name_in (boolean_names m) head.indicator, line) ∷ []) (empty_block (length bs) line) ((o, d) ∷ os) (line + 1) b (below_disjuncts js ++ later))
-    → DisjunctsGiven m vs g ((bs ++ (name_in (boolean_names m) head.indicator, line) ∷ []) ++ k.more) o (with_disjunct_closed d (inside_at line bs k.rows k.closed)) os (after + 1) js later
+    → DisjunctsGiven m vs g ((bs ++ (name_in (boolean_names m) head.indicator, line) ∷ []) ++ k.more) o (with_disjunct_closed d (inside_at line bs k.rows k.props k.closed)) os (after + 1) js later
     → DisjunctsGiven m vs g bs o d os line (disjunct head b js) later
 disjuncts_step m vs g bs o d os line after head b js later at next shallow is k t =
     let x : BooleanValue = (name_in (boolean_names m) head.indicator, line) in
     let bs1 : List BooleanValue = bs ++ x ∷ [] in
-    let i : OpenBlock = inside_at line bs k.rows k.closed in
+    let i : OpenBlock = inside_at line bs k.rows k.props k.closed in
     let d' : OpenDisjunction = with_disjunct_closed d i in
     let rest : Leads after (headed (in_block vs g (bs1 ++ k.more) i ((o, d) ∷ os))) (codes "end" ∷ disjuncts_lines m js)
     (headed (in_disjunction vs g ((bs1 ++ k.more) ++ t.more) o (record d' { closed = d'.closed ++ t.closed }) os)) =
@@ -434,29 +448,47 @@ first_is m bs head heads f =
 
 mutual
   pub block_lead : (m : ModelTree) (vs : List VarValue) (g : Option GoalValue) (bs : List BooleanValue) (o : OpenBlock) (os : List (OpenBlock × OpenDisjunction)) (line : ℕ) (b : BlockTree) (later : List DisjunctHead) → IsContext m vs
-      → AreFirst m bs (below b ++ later) → rows_so_far (in_block vs g bs o os) + row_count b ≤ 1000 → is_shallow (length os) b ≡ true → is_block_sound (length m.vars) (length m.booleans) b ≡ true → is_stored b ≡ true
-      → BlockGiven m vs g bs o os line b later
-  block_lead m vs g bs o os line (block items ds) later ctx f rows shallow sound stored =
-      let s = both (are_rows_below (length m.vars) items.rows) (are_disjunctions_sound (length m.vars) (length m.booleans) ds) sound in
+      → AreFirst m bs (below b ++ later) → rows_so_far (in_block vs g bs o os) + row_count b ≤ 1000 → nodes_so_far (in_block vs g bs o os) + node_total b ≤ 5000 → is_shallow (length os) b ≡ true
+      → is_block_sound (length m.vars) (length m.booleans) b ≡ true → is_stored b ≡ true → names_earlier (length bs + length (below b)) b ≡ true → BlockGiven m vs g bs o os line b later
+  block_lead m vs g bs o os line (block items ds) later ctx f rows nodes shallow sound stored earlier =
+      let s = both (are_rows_below (length m.vars) items.rows) (are_props_sound (length m.booleans) items.props && are_disjunctions_sound (length m.vars) (length m.booleans) ds) sound in
+      let q = both (are_props_sound (length m.booleans) items.props) (are_disjunctions_sound (length m.vars) (length m.booleans) ds) s.1 in
       let h = both (are_rows_stored items.rows) (are_disjunctions_stored ds) stored in
+      let n = both (name_only_first (length bs + length (below_disjunctions ds)) items.props) (disjunctions_name_earlier ds) earlier in
       let o' : OpenBlock = record o { rows = o.rows ++ rows_at line items.rows } in
       let r = rows_lead m vs g bs o os line items.rows ctx s.0 h.0 (omega (arith, rows)) in
       let few : rows_so_far (in_block vs g bs o' os) + row_count_below ds ≤ 1000 = omega (arith, rows, length-append o.rows (rows_at line items.rows), rows_at_length line items.rows) in
-      let t = disjunctions_lead m vs g bs o' os (line + length items.rows) ds later ctx f few shallow s.1 h.1 in
+      let t = disjunctions_lead m vs g bs o' os (line + length items.rows) ds later ctx f few (omega (arith, nodes)) shallow q.1 h.1 n.1 in
+      let bs' : List BooleanValue = bs ++ t.more in
+      let o'' : OpenBlock = record o' { closed = o.closed ++ t.closed } in
+      let line3 : ℕ = line + length items.rows + length (disjunctions_lines m ds) in
+      let declared : length bs + length (below_disjunctions ds) ≡ length bs' = omega (arith, f.left, t.firsts.left, length-append (below_disjunctions ds) later) in
+      let named : name_only_first (length bs') items.props ≡ true = ap (λ k. name_only_first k items.props) (sym declared) ∙ n.0 in
+      let few_nodes : nodes_so_far (in_block vs g bs' o'' os) + nodes_of_props items.props ≤ 5000 =
+      omega (arith, nodes, below_nodes_appended o.closed t.closed, below_nodes_same (disjunctions t.closed) ds t.same) in
+      let p = props_lead m vs g bs' o'' os line3 items.props ctx t.firsts.names named q.0 few_nodes in
       record {
         more = t.more;
         rows = rows_at line items.rows;
+        props = props_at line3 items.props;
         closed = t.closed;
-        leads = leads_then line (line + length items.rows) (map (row_line m) items.rows) (disjunctions_lines m ds) _ _ _ (omega (arith, lines_length m items.rows)) r t.leads;
-        same = ap (λ l. block (record { rows = l }) (unmarked_disjunctions (disjunctions t.closed))) (rows_at_same line items.rows) ∙ ap (λ l. block (record { rows = unmarked_rows items.rows }) l) t.same;
-        printed = words_appended (map (row_line m) items.rows) (disjunctions_lines m ds) (rows_printed m vs items.rows ctx s.0 h.0) t.printed;
+        leads =
+            leads_then line (line + length items.rows) (map (row_line m) items.rows) (disjunctions_lines m ds ++ map (logic_line m) items.props) _ _ _ (omega (arith, lines_length m items.rows)) r
+            (leads_then (line + length items.rows) line3 (disjunctions_lines m ds) (map (logic_line m) items.props) _ _ _ refl t.leads p);
+        same =
+            ap (λ l. block (record { rows = l; props = unmarked_props (props_at line3 items.props) }) (unmarked_disjunctions (disjunctions t.closed))) (rows_at_same line items.rows)
+            ∙ ap (λ l. block (record { rows = unmarked_rows items.rows; props = l }) (unmarked_disjunctions (disjunctions t.closed))) (props_at_same line3 items.props)
+            ∙ ap (λ l. block (record { rows = unmarked_rows items.rows; props = unmarked_props items.props }) l) t.same;
+        printed =
+            words_appended (map (row_line m) items.rows) (disjunctions_lines m ds ++ map (logic_line m) items.props) (rows_printed m vs items.rows ctx s.0 h.0)
+            (words_appended (disjunctions_lines m ds) (map (logic_line m) items.props) t.printed (props_printed m vs bs' items.props ctx t.firsts.names named q.0));
         firsts = t.firsts;
       }
 
   disjunctions_lead : (m : ModelTree) (vs : List VarValue) (g : Option GoalValue) (bs : List BooleanValue) (o : OpenBlock) (os : List (OpenBlock × OpenDisjunction)) (line : ℕ) (ds : Disjunctions) (later : List DisjunctHead) → IsContext m vs
-      → AreFirst m bs (below_disjunctions ds ++ later) → rows_so_far (in_block vs g bs o os) + row_count_below ds ≤ 1000 → are_disjunctions_shallow (length os) ds ≡ true
-      → are_disjunctions_sound (length m.vars) (length m.booleans) ds ≡ true → are_disjunctions_stored ds ≡ true → DisjunctionsGiven m vs g bs o os line ds later
-  disjunctions_lead m vs g bs o os line no_disjunctions later ctx f rows shallow sound stored = record {
+      → AreFirst m bs (below_disjunctions ds ++ later) → rows_so_far (in_block vs g bs o os) + row_count_below ds ≤ 1000 → nodes_so_far (in_block vs g bs o os) + node_total_below ds ≤ 5000 → are_disjunctions_shallow (length os) ds ≡ true
+      → are_disjunctions_sound (length m.vars) (length m.booleans) ds ≡ true → are_disjunctions_stored ds ≡ true → disjunctions_name_earlier ds ≡ true → DisjunctionsGiven m vs g bs o os line ds later
+  disjunctions_lead m vs g bs o os line no_disjunctions later ctx f rows nodes shallow sound stored earlier = record {
     more = [];
     closed = [];
     leads = ap (λ l. headed (in_block vs g l o os)) (sym (append-nil bs)) ∙ ap (λ l. headed (in_block vs g (bs ++ []) (record o { closed = l }) os)) (sym (append-nil o.closed));
@@ -464,24 +496,27 @@ mutual
     printed = refl;
     firsts = first_booleans m bs (bs ++ []) later (sym (append-nil bs)) f;
   }
-  disjunctions_lead m vs g bs o os line (disjunction head js ds) later ctx f rows shallow sound stored =
+  disjunctions_lead m vs g bs o os line (disjunction head js ds) later ctx f rows nodes shallow sound stored earlier =
       let h = both (are_disjuncts_shallow (length os) js) (are_disjunctions_shallow (length os) ds) shallow in
       let s = both (is_filled js && are_disjuncts_sound (length m.vars) (length m.booleans) js) (are_disjunctions_sound (length m.vars) (length m.booleans) ds) sound in
       let q = both (is_filled js) (are_disjuncts_sound (length m.vars) (length m.booleans) js) s.0 in
       let w = both (are_disjuncts_stored js) (are_disjunctions_stored ds) stored in
+      let n = both (disjuncts_name_earlier js) (disjunctions_name_earlier ds) earlier in
       let d : OpenDisjunction = opened_at line head in
-      let r = disjuncts_lead m vs g bs o d os (line + 1) js (below_disjunctions ds ++ later) ctx (first_grouped m bs (below_disjuncts js) (below_disjunctions ds) later f) (omega (arith, rows)) h.0 q.1 w.0 in
+      let r = disjuncts_lead m vs g bs o d os (line + 1) js (below_disjunctions ds ++ later) ctx (first_grouped m bs (below_disjuncts js) (below_disjunctions ds) later f) (omega (arith, rows)) (omega (arith, nodes)) h.0 q.1 w.0 n.0 in
       let after : ℕ = line + 1 + length (disjuncts_lines m js) in
       let x : DisjunctionTree = closed_disjunction (record d { closed = r.closed }) in
       let few : rows_so_far (in_block vs g (bs ++ r.more) (with_closed o d r.closed) os) + row_count_below ds ≤ 1000 =
       omega (arith, rows, below_appended o.closed (x ∷ []), within_same (disjuncts r.closed) js r.same) in
-      let t = disjunctions_lead m vs g (bs ++ r.more) (with_closed o d r.closed) os (after + 1) ds later ctx r.firsts few h.1 s.1 w.1 in
+      let few_nodes : nodes_so_far (in_block vs g (bs ++ r.more) (with_closed o d r.closed) os) + node_total_below ds ≤ 5000 =
+      omega (arith, nodes, below_nodes_appended o.closed (x ∷ []), within_nodes_same (disjuncts r.closed) js r.same) in
+      let t = disjunctions_lead m vs g (bs ++ r.more) (with_closed o d r.closed) os (after + 1) ds later ctx r.firsts few few_nodes h.1 s.1 w.1 n.1 in
       disjunctions_step m vs g bs o os line after head js ds later refl q.0 r t
 
   disjuncts_lead : (m : ModelTree) (vs : List VarValue) (g : Option GoalValue) (bs : List BooleanValue) (o : OpenBlock) (d : OpenDisjunction) (os : List (OpenBlock × OpenDisjunction)) (line : ℕ) (js : Disjuncts) (later : List DisjunctHead) → IsContext m vs
-      → AreFirst m bs (below_disjuncts js ++ later) → rows_so_far (in_disjunction vs g bs o d os) + row_count_within js ≤ 1000 → are_disjuncts_shallow (length os) js ≡ true
-      → are_disjuncts_sound (length m.vars) (length m.booleans) js ≡ true → are_disjuncts_stored js ≡ true → DisjunctsGiven m vs g bs o d os line js later
-  disjuncts_lead m vs g bs o d os line no_disjuncts later ctx f rows shallow sound stored = record {
+      → AreFirst m bs (below_disjuncts js ++ later) → rows_so_far (in_disjunction vs g bs o d os) + row_count_within js ≤ 1000 → nodes_so_far (in_disjunction vs g bs o d os) + node_total_within js ≤ 5000 → are_disjuncts_shallow (length os) js ≡ true
+      → are_disjuncts_sound (length m.vars) (length m.booleans) js ≡ true → are_disjuncts_stored js ≡ true → disjuncts_name_earlier js ≡ true → DisjunctsGiven m vs g bs o d os line js later
+  disjuncts_lead m vs g bs o d os line no_disjuncts later ctx f rows nodes shallow sound stored earlier = record {
     more = [];
     closed = [];
     leads = ap (λ l. headed (in_disjunction vs g l o d os)) (sym (append-nil bs)) ∙ ap (λ l. headed (in_disjunction vs g (bs ++ []) o (record d { closed = l }) os)) (sym (append-nil d.closed));
@@ -489,19 +524,25 @@ mutual
     printed = refl;
     firsts = first_booleans m bs (bs ++ []) later (sym (append-nil bs)) f;
   }
-  disjuncts_lead m vs g bs o d os line (disjunct head b js) later ctx f rows shallow sound stored =
+  disjuncts_lead m vs g bs o d os line (disjunct head b js) later ctx f rows nodes shallow sound stored earlier =
       let h = both (nat_lt (length os) 8 && is_shallow (suc (length os)) b) (are_disjuncts_shallow (length os) js) shallow in
       let e = both (nat_lt (length os) 8) (is_shallow (suc (length os)) b) h.0 in
       let s = both (nat_lt head.indicator (length m.booleans) && is_block_sound (length m.vars) (length m.booleans) b) (are_disjuncts_sound (length m.vars) (length m.booleans) js) sound in
       let q = both (nat_lt head.indicator (length m.booleans)) (is_block_sound (length m.vars) (length m.booleans) b) s.0 in
       let w = both (is_stored b) (are_disjuncts_stored js) stored in
+      let n = both (names_earlier (declared_by_end head b) b) (disjuncts_name_earlier js) earlier in
       let heads : List DisjunctHead = (below b ++ below_disjuncts js) ++ later in
       let bs1 : List BooleanValue = bs ++ (name_in (boolean_names m) head.indicator, line) ∷ [] in
       let f1 : AreFirst m bs1 (below b ++ (below_disjuncts js ++ later)) = first_grouped m bs1 (below b) (below_disjuncts js) later (first_more m bs head heads line f) in
-      let k = block_lead m vs g bs1 (empty_block (length bs) line) ((o, d) ∷ os) (line + 1) b (below_disjuncts js ++ later) ctx f1 (omega (arith, rows)) e.1 q.1 w.0 in
+      let first_bs : length bs ≡ head.indicator = first_is m bs head heads f in
+      let by_end : declared_by_end head b ≡ length bs1 + length (below b) = omega (arith, first_bs, length-append bs ((name_in (boolean_names m) head.indicator, line) ∷ [])) in
+      let earlier_b : names_earlier (length bs1 + length (below b)) b ≡ true = ap (λ x. names_earlier x b) (sym by_end) ∙ n.0 in
+      let k = block_lead m vs g bs1 (empty_block (length bs) line) ((o, d) ∷ os) (line + 1) b (below_disjuncts js ++ later) ctx f1 (omega (arith, rows)) (omega (arith, nodes)) e.1 q.1 w.0 earlier_b in
       let after : ℕ = line + 1 + length (block_lines m b) in
-      let i : OpenBlock = inside_at line bs k.rows k.closed in
+      let i : OpenBlock = inside_at line bs k.rows k.props k.closed in
       let few : rows_so_far (in_disjunction vs g (bs1 ++ k.more) o (with_disjunct_closed d i) os) + row_count_within js ≤ 1000 =
       omega (arith, rows, within_appended d.closed (closed_disjunct i ∷ []), block_count_same (closed_block i) b k.same) in
-      let t = disjuncts_lead m vs g (bs1 ++ k.more) o (with_disjunct_closed d i) os (after + 1) js later ctx k.firsts few h.1 s.1 w.1 in
-      disjuncts_step m vs g bs o d os line after head b js later refl (next_name m vs bs head heads ctx f) (eight (length os) e.0) (first_is m bs head heads f) k t
+      let few_nodes : nodes_so_far (in_disjunction vs g (bs1 ++ k.more) o (with_disjunct_closed d i) os) + node_total_within js ≤ 5000 =
+      omega (arith, nodes, within_nodes_appended d.closed (closed_disjunct i ∷ []), block_nodes_same (closed_block i) b k.same) in
+      let t = disjuncts_lead m vs g (bs1 ++ k.more) o (with_disjunct_closed d i) os (after + 1) js later ctx k.firsts few few_nodes h.1 s.1 w.1 n.1 in
+      disjuncts_step m vs g bs o d os line after head b js later refl (next_name m vs bs head heads ctx f) (eight (length os) e.0) first_bs k t

@@ -3,11 +3,12 @@ use Rattle.std.proofs.Common.{◌≡◌, ℕ, ◌+◌, ◌==◌, Bool, true, fal
 use Rattle.std.specs.List.{list_any}
 use Rattle.std.proofs.lemmas.List.{map-append}
 use Rattle.lp_rows.specs.Rows.{RowValue}
+use Rattle.propositions.specs.Tree.{PropTree}
 use Rattle.block_tree.specs.Tree.{DisjunctHead, BlockTree, block, Disjunctions, no_disjunctions, disjunction, Disjuncts, no_disjuncts, disjunct, below, below_disjunctions, below_disjuncts}
 use Rattle.block_tree.specs.Values.{ModelTree}
 use Rattle.block_tree.specs.Variables.{VarValue, BooleanValue}
-use Rattle.gdp_grammar.specs.Canonical.{text_of, var_names, boolean_names, row_line, var_line, boolean_line, goal_line, disjunction_line, disjunct_line, block_lines, disjunctions_lines, disjuncts_lines, numbers_of, indicators, free_from, free_booleans, canonical_lines, canonical_text}
-use Rattle.gdp_grammar.specs.CanonicalLaws.{unmarked_rows, unmarked_block, unmarked_disjunctions, unmarked_disjuncts, unmarked_vars, unmarked_booleans, unmarked, CanonicalIgnoresMarks}
+use Rattle.gdp_grammar.specs.Canonical.{text_of, var_names, boolean_names, row_line, logic_line, var_line, boolean_line, goal_line, disjunction_line, disjunct_line, block_lines, disjunctions_lines, disjuncts_lines, numbers_of, indicators, free_from, free_booleans, canonical_lines, canonical_text}
+use Rattle.gdp_grammar.specs.CanonicalLaws.{unmarked_rows, unmarked_props, unmarked_block, unmarked_disjunctions, unmarked_disjuncts, unmarked_vars, unmarked_booleans, unmarked, CanonicalIgnoresMarks}
 
 var_names_same : (vars : List VarValue) → map (λ (v : VarValue). v.0) (unmarked_vars vars) ≡ map (λ (v : VarValue). v.0) vars
 var_names_same [] = refl
@@ -26,9 +27,16 @@ rows_same : (m n : ModelTree) (rows : List (RowValue × ℕ)) → var_names n �
 rows_same m n [] e = refl
 rows_same m n (r ∷ rs) e = rw e (ap (λ l. row_line m r ∷ l) (rows_same m n rs e))
 
+props_same : (m n : ModelTree) (props : List (PropTree × ℕ)) → boolean_names n ≡ boolean_names m → map (logic_line n) (unmarked_props props) ≡ map (logic_line m) props
+props_same m n [] e = refl
+props_same m n (q ∷ qs) e = rw e (ap (λ l. logic_line m q ∷ l) (props_same m n qs e))
+
 mutual
   block_same : (m n : ModelTree) (b : BlockTree) → HaveNames m n → block_lines n (unmarked_block b) ≡ block_lines m b
-  block_same m n (block items ds) h = ap (λ l. l ++ disjunctions_lines n (unmarked_disjunctions ds)) (rows_same m n items.rows h.vars) ∙ ap (λ l. map (row_line m) items.rows ++ l) (disjunctions_same m n ds h)
+  block_same m n (block items ds) h =
+      ap (λ l. l ++ (disjunctions_lines n (unmarked_disjunctions ds) ++ map (logic_line n) (unmarked_props items.props))) (rows_same m n items.rows h.vars)
+      ∙ ap (λ l. map (row_line m) items.rows ++ (l ++ map (logic_line n) (unmarked_props items.props))) (disjunctions_same m n ds h)
+      ∙ ap (λ l. map (row_line m) items.rows ++ (disjunctions_lines m ds ++ l)) (props_same m n items.props h.booleans)
 
   disjunctions_same : (m n : ModelTree) (ds : Disjunctions) → HaveNames m n → disjunctions_lines n (unmarked_disjunctions ds) ≡ disjunctions_lines m ds
   disjunctions_same m n no_disjunctions h = refl

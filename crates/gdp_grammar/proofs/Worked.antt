@@ -7,7 +7,8 @@ use Rattle.gdp_grammar.specs.Following.{text_gives}
 use Rattle.gdp_grammar.specs.Forms.{signed_of, low_after, high_of, summand_of, summands_of, sum_of, constant_of, var_of, boolean_of, number_goal_of, terms_goal_of, row_of, disjunction_of, disjunct_of, end_of}
 use Rattle.gdp_grammar.specs.Laws.{WorkedTexts}
 use Rattle.gdp_grammar.specs.Numerals.{common_divisor_within, common_divisor}
-use Rattle.gdp_grammar.specs.Reading.{with_var, terms_of, with_goal, with_row, with_line, model_after}
+use Rattle.gdp_grammar.specs.PropReading.{prop_of}
+use Rattle.gdp_grammar.specs.Reading.{with_var, terms_of, with_goal, with_row, with_logic, with_line, model_after}
 use Rattle.gdp_grammar.specs.Tokens.{numeral_of, double_of, token_of, tokens_of}
 use Rattle.gdp_grammar.specs.Words.{words_of}
 use Rattle.gdp_grammar.specs.Worked as worked
@@ -29,9 +30,13 @@ empty_bad : text_gives [] ≡ Err (1, cause.Header)
 unfolding model_after
 empty_bad = refl
 
-logic_bad : text_gives worked.logic ≡ Err (1, cause.NotBuilt)
-unfolding with_line tokens_of token_of
-logic_bad = refl
+logic_spelled : text_gives worked.logic ≡ Ok worked.logic_model
+unfolding reserved_words is_name least_multiple_from product_of least_scale common_divisor_within common_divisor signed_of low_after high_of summand_of summands_of sum_of constant_of var_of boolean_of number_goal_of terms_goal_of row_of disjunction_of disjunct_of end_of with_var terms_of with_goal with_row with_logic prop_of with_line model_after numeral_of double_of token_of tokens_of words_of
+logic_spelled = refl
+
+unknown_bad : text_gives worked.unknown ≡ Err (3, cause.NameUnknown)
+unfolding reserved_words is_name least_multiple_from product_of least_scale common_divisor_within common_divisor signed_of low_after high_of summand_of summands_of sum_of constant_of var_of boolean_of number_goal_of terms_goal_of row_of disjunction_of disjunct_of end_of with_var terms_of with_goal with_row with_logic prop_of with_line model_after numeral_of double_of token_of tokens_of words_of
+unknown_bad = refl
 
 pub worked_texts : WorkedTexts
 worked_texts = record {
@@ -39,5 +44,6 @@ worked_texts = record {
   spelled_nested = spelled worked.nested worked.nested_model nested_spelled;
   other_version = first_bad worked.padded (1, cause.Header) padded_bad;
   no_lines = first_bad [] (1, cause.Header) empty_bad;
-  not_read_yet = first_bad worked.logic (1, cause.NotBuilt) logic_bad;
+  spelled_logic = spelled worked.logic worked.logic_model logic_spelled;
+  unknown_boolean = first_bad worked.unknown (3, cause.NameUnknown) unknown_bad;
 }

@@ -10,6 +10,7 @@ use Rattle.lp_rows.specs.declared.kinds.Rel.TheVariants.{AtMost, AtLeast, Equal}
 use Rattle.lp_rows.specs.declared.kinds.Sense.{Sense}
 use Rattle.lp_rows.specs.declared.kinds.Sense.TheVariants.{Min, Max}
 use Rattle.lp_rows.specs.Rows.{RowValue}
+use Rattle.propositions.specs.Tree.{PropTree}
 use Rattle.block_tree.specs.declared.tree.Mode.{Mode}
 use Rattle.block_tree.specs.declared.tree.Mode.TheVariants.{Xor, Or}
 use Rattle.block_tree.specs.Tree.{DisjunctHead, BlockTree, block, Disjunctions, no_disjunctions, disjunction, Disjuncts, no_disjuncts, disjunct, below}
@@ -17,6 +18,7 @@ use Rattle.block_tree.specs.Values.{ModelTree}
 use Rattle.block_tree.specs.Variables.{VarValue, BooleanValue}
 use Rattle.block_tree.specs.View.{DisjunctTree, DisjunctionTree}
 use Rattle.gdp_grammar.specs.Lowest.{over}
+use Rattle.gdp_grammar.specs.PropNames.{named_in, prop_text}
 
 -- words with a blank before each
 abbrev pub spaced : List (List ℕ) → List ℕ
@@ -124,6 +126,10 @@ goal_line m =
     line_of (sense_word m.goal.sense)
     (goal_words (var_names m) (terms_over m.goal.scale m.goal.terms) (over m.goal.scale m.goal.constant))
 
+-- logic PROP, with the names of the Booleans
+abbrev pub logic_line : ModelTree → PropTree × ℕ → List ℕ
+logic_line m q = line_of (codes "logic") (prop_text (named_in (boolean_names m) q.0) ∷ [])
+
 -- disjunction MODE
 abbrev pub disjunction_line : Mode → List ℕ
 disjunction_line mode = line_of (codes "disjunction") (mode_word mode ∷ [])
@@ -132,11 +138,11 @@ disjunction_line mode = line_of (codes "disjunction") (mode_word mode ∷ [])
 abbrev pub disjunct_line : ModelTree → ℕ → List ℕ
 disjunct_line m indicator = line_of (codes "disjunct") (name_in (boolean_names m) indicator ∷ [])
 
--- A block has its rows and then its disjunctions. A disjunction has its disjuncts and `end`, and a disjunct its block
--- and `end`.
+-- A block has its rows, then its disjunctions and then its propositions, which so stand behind the indicators that they
+-- may name. A disjunction has its disjuncts and `end`, and a disjunct its block and `end`.
 abbrev mutual
   pub block_lines : ModelTree → BlockTree → List (List ℕ)
-  block_lines m (block items ds) = map (row_line m) items.rows ++ disjunctions_lines m ds
+  block_lines m (block items ds) = map (row_line m) items.rows ++ (disjunctions_lines m ds ++ map (logic_line m) items.props)
 
   pub disjunctions_lines : ModelTree → Disjunctions → List (List ℕ)
   disjunctions_lines m no_disjunctions = []

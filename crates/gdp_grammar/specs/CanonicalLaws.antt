@@ -2,6 +2,7 @@
 use Rattle.std.specs.Prelude.{◌≡◌, ℕ, Bool, true, ◌&&◌, List, map, is_none}
 use Rattle.std.specs.List.{list_all}
 use Rattle.lp_rows.specs.Rows.{RowValue, row_refusal}
+use Rattle.propositions.specs.Tree.{PropTree}
 use Rattle.block_tree.specs.Sound.{IsSound}
 use Rattle.block_tree.specs.Tree.{BlockTree, block, Disjunctions, no_disjunctions, disjunction, Disjuncts, no_disjuncts, disjunct}
 use Rattle.block_tree.specs.Values.{GoalValue, ModelTree}
@@ -14,10 +15,14 @@ use Rattle.gdp_grammar.specs.Spelling.{Spells}
 abbrev pub unmarked_rows : List (RowValue × ℕ) → List (RowValue × ℕ)
 unmarked_rows rows = map (λ r. (r.0, 0)) rows
 
+-- propositions without their marks
+abbrev pub unmarked_props : List (PropTree × ℕ) → List (PropTree × ℕ)
+unmarked_props props = map (λ q. (q.0, 0)) props
+
 -- a block without marks, and so what is below it
 abbrev mutual
   pub unmarked_block : BlockTree → BlockTree
-  unmarked_block (block items ds) = block (record { rows = unmarked_rows items.rows }) (unmarked_disjunctions ds)
+  unmarked_block (block items ds) = block (record { rows = unmarked_rows items.rows; props = unmarked_props items.props }) (unmarked_disjunctions ds)
 
   pub unmarked_disjunctions : Disjunctions → Disjunctions
   unmarked_disjunctions no_disjunctions = no_disjunctions

@@ -28,12 +28,13 @@ pub record Summand : Type 0 where
   pub size : Option Numeral
   pub name : List ℕ
 
--- a line, by what it says
+-- A line, by what it says. That of a proposition has its tokens, which are read where it is added.
 pub data Form : Type 0 where
   Var : (name : List ℕ) (kind : Kind) (low high : Option Signed) → Form
   Boolean : (name : List ℕ) → Form
   Goal : (sense : Sense) (sum : List Summand) (constant : Option Signed) → Form
   Row : (sum : List Summand) (rel : Rel) (right : Signed) → Form
+  Logic : (tokens : List Piece) → Form
   Disjunction : (mode : Mode) → Form
   Disjunct : (name : List ℕ) → Form
   End : Form
@@ -247,17 +248,13 @@ form_after word ps =
     else (if bytes_eq word (codes "min") then goal_of Min ps
     else (if bytes_eq word (codes "max") then goal_of Max ps
     else (if bytes_eq word (codes "row") then row_of ps
+    else (if bytes_eq word (codes "logic") then Ok (Logic ps)
     else (if bytes_eq word (codes "disjunction") then disjunction_of ps
     else (if bytes_eq word (codes "disjunct") then disjunct_of ps
     else (if bytes_eq word (codes "end") then end_of ps
-    else Err cause.Form)))))))
+    else Err cause.Form))))))))
 
 -- the form of a line
 abbrev pub form_of : List Piece → Result Form ReadCause
 form_of (Word word ∷ ps) = form_after word ps
 form_of _ = Err cause.Form
-
--- The line's first word is `logic`. Such lines are not read yet.
-abbrev pub is_logic : List Piece → Bool
-is_logic (Word word ∷ ps) = bytes_eq word (codes "logic")
-is_logic _ = false

@@ -45,11 +45,12 @@ abbrev pub LaidOut : Type 0
 LaidOut = (text : List ℕ) (m : ModelTree) → Spells text m → IsLaidOut text m
 
 -- A text of the header, one variable and one row spells their model, and one of a goal and a choice the model that is
--- nested so. A number after `gdp` that is not spelled `1` is no header, and neither is the want of any line; a line of
--- logic is not read yet.
+-- nested so. A number after `gdp` that is not spelled `1` is no header, and neither is the want of any line. A proposition is
+-- spelled by its line, but not where it names a Boolean of a later one.
 pub record WorkedTexts : Type 0 where
   pub spelled : Spells worked.text worked.model
   pub spelled_nested : Spells worked.nested worked.nested_model
   pub other_version : IsFirstBad worked.padded 1 cause.Header
   pub no_lines : IsFirstBad [] 1 cause.Header
-  pub not_read_yet : IsFirstBad worked.logic 1 cause.NotBuilt
+  pub spelled_logic : Spells worked.logic worked.logic_model
+  pub unknown_boolean : IsFirstBad worked.unknown 3 cause.NameUnknown

@@ -8,6 +8,7 @@ use Rattle.gdp_grammar.specs.Lines.{lines_of}
 -- a line, by what it means for nesting
 pub data LineKind : Type 0 where
   RowLine : LineKind
+  LogicLine : LineKind
   DisjunctionLine : LineKind
   DisjunctLine : LineKind
   EndLine : LineKind
@@ -20,6 +21,7 @@ Kinds = ℕ → LineKind
 -- the kind of a line of this form
 abbrev pub kind_in : Result form.Form ReadCause → LineKind
 kind_in (Ok (form.Row sum rel right)) = RowLine
+kind_in (Ok (form.Logic tokens)) = LogicLine
 kind_in (Ok (form.Disjunction mode)) = DisjunctionLine
 kind_in (Ok (form.Disjunct name)) = DisjunctLine
 kind_in (Ok form.End) = EndLine
@@ -37,6 +39,10 @@ kinds_of text = kinds_from (lines_of text)
 abbrev pub is_row : LineKind → Bool
 is_row RowLine = true
 is_row _ = false
+
+abbrev pub is_logic : LineKind → Bool
+is_logic LogicLine = true
+is_logic _ = false
 
 abbrev pub is_disjunction : LineKind → Bool
 is_disjunction DisjunctionLine = true

@@ -1,10 +1,9 @@
 -- The Booleans that a proposition names, and the text that it is written with.
-use Rattle.std.specs.Prelude.{ℕ, Bool, true, ◌&&◌, List, [], ◌∷◌, ◌++◌, map, codes, Option, None, Some, is_some, unwrap_or, position, bytes_eq}
+use Rattle.std.specs.Prelude.{ℕ, Bool, true, ◌&&◌, List, [], ◌∷◌, ◌++◌, map, codes, Option, None, Some, is_some, unwrap_or, position, bytes_eq, slice_index_or}
 use Rattle.std.specs.Fmt.{decimal}
 use Rattle.propositions.specs.Tree.{ListConnective, all_of, some_of, PropTree, atom, negated, paired, listed, PropTrees, no_props, prop}
 use Rattle.propositions.specs.Tree as tree
 use Rattle.block_tree.specs.Variables.{BooleanValue}
-use Rattle.gdp_grammar.specs.Canonical.{name_in}
 use Rattle.gdp_grammar.specs.Numerals as numeral
 use Rattle.gdp_grammar.specs.PropTexts.{Counting, exactly, at_least, at_most, Operator, negation, pair, all, some, counted, NamedProp, named, applied, NamedProps, no_arguments, argument, pair_word, counting_word}
 
@@ -58,7 +57,7 @@ list_operator (tree.at_most n) = counted at_most (decimal n)
 -- a proposition with the names of its Booleans
 abbrev mutual
   pub named_in : List (List ℕ) → PropTree → NamedProp
-  named_in names (atom k) = named (name_in names k)
+  named_in names (atom k) = named (slice_index_or names k [])
   named_in names (negated p) = applied negation (argument (named_in names p) no_arguments)
   named_in names (paired c p q) = applied (pair c) (argument (named_in names p) (argument (named_in names q) no_arguments))
   named_in names (listed c ps) = applied (list_operator c) (all_named_in names ps)

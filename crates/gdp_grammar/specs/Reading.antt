@@ -8,14 +8,17 @@ use Rattle.block_tree.specs.declared.errors.BuildError.{BuildError}
 use Rattle.block_tree.specs.declared.errors.BuildError.TheVariants as refusal
 use Rattle.block_tree.specs.Building.{BuildingValue, new_building, is_at_root, is_taken, var_outcome, row_outcome, finish_outcome}
 use Rattle.block_tree.specs.Nesting.{boolean_outcome, goal_outcome, open_disjunction_outcome, open_disjunct_outcome, close_outcome}
+use Rattle.block_tree.specs.Props.{prop_outcome}
 use Rattle.block_tree.specs.Values.{ModelTree}
 use Rattle.block_tree.specs.Variables.{VarValue}
 use Rattle.gdp_grammar.specs.declared.cause.ReadCause.{ReadCause}
 use Rattle.gdp_grammar.specs.declared.cause.ReadCause.TheVariants as cause
 use Rattle.gdp_grammar.specs.Causes.{◌>>=◌, refuse_if}
-use Rattle.gdp_grammar.specs.Forms.{Form, Var, Boolean, Goal, Row, Disjunction, Disjunct, End, Signed, Summand, form_of, is_logic}
+use Rattle.gdp_grammar.specs.Forms.{Form, Var, Boolean, Goal, Row, Logic, Disjunction, Disjunct, End, Signed, Summand, form_of}
 use Rattle.gdp_grammar.specs.Lines.{without_comment}
 use Rattle.gdp_grammar.specs.Numerals.{Numeral, signed, value_of}
+use Rattle.gdp_grammar.specs.PropNames.{are_known, tree_in}
+use Rattle.gdp_grammar.specs.PropReading.{prop_of}
 use Rattle.gdp_grammar.specs.Tokens.{Piece, tokens_of}
 use Rattle.gdp_grammar.specs.Words.{words_of, are_words}
 
@@ -134,12 +137,21 @@ with_row b line sum rel right = do
   right ← or_cause cause.Number (value_of right.is_negative right.size)
   after_call (row_outcome terms rel right line b)
 
+-- a proposition is appended: it stands in a block, its tokens spell it, and its names are known
+unfoldable pub with_logic : BuildingValue → ℕ → List Piece → Result BuildingValue ReadCause
+with_logic b line tokens = do
+  place ← refuse_if (is_some b.opened) cause.Form
+  p ← prop_of tokens
+  known ← refuse_if (not (are_known b.booleans p)) cause.NameUnknown
+  after_call (prop_outcome (tree_in b.booleans p) line b)
+
 -- what a line of this form adds; the line `end` closes the innermost that is open
 abbrev pub with_form : BuildingValue → ℕ → Form → Result BuildingValue ReadCause
 with_form b line (Var name kind low high) = with_var b line name kind low high
 with_form b line (Boolean name) = after_call (boolean_outcome name line b)
 with_form b line (Goal sense sum constant) = with_goal b line sense sum constant
 with_form b line (Row sum rel right) = with_row b line sum rel right
+with_form b line (Logic tokens) = with_logic b line tokens
 with_form b line (Disjunction mode) = after_call (open_disjunction_outcome mode line b)
 with_form b line (Disjunct name) = after_call (open_disjunct_outcome name line b)
 with_form b line End = after_call (close_outcome b)
@@ -178,9 +190,7 @@ with_content t line content = if t.headed then with_tokens t line (tokens_of con
 
 -- what a line adds after the lines before it
 unfoldable pub with_line : Taken → ℕ → List ℕ → Result Taken ReadCause
-with_line t line bytes = do
-  built ← refuse_if (is_logic (tokens_of (without_comment bytes))) cause.NotBuilt
-  with_content t line (without_comment bytes)
+with_line t line bytes = with_content t line (without_comment bytes)
 
 -- the model, or the cause of the builder's refusal
 abbrev pub finished : Result ModelTree BuildError → Result ModelTree ReadCause

@@ -1,11 +1,12 @@
 -- Owners as a stack finds them: the lines that open what is open.
 use Rattle.std.specs.Prelude.{ℕ, zero, suc, Bool, true, false, ◌&&◌, ◌==◌, List, [], ◌∷◌, ◌++◌, drop, Option, None, Some, if◌then◌else◌}
 use Rattle.gdp_grammar.specs.Nested.{AreOwned}
-use Rattle.gdp_grammar.specs.Owners.{LineKind, RowLine, DisjunctionLine, DisjunctLine, EndLine, OtherLine, Kinds, IsOwner, IsNested}
+use Rattle.gdp_grammar.specs.Owners.{LineKind, RowLine, LogicLine, DisjunctionLine, DisjunctLine, EndLine, OtherLine, Kinds, IsOwner, IsNested}
 
 -- what is open after a line, from the inside out
 abbrev pub open_after : LineKind → ℕ → List ℕ → List ℕ
 open_after RowLine n lines = lines
+open_after LogicLine n lines = lines
 open_after DisjunctionLine n lines = n ∷ lines
 open_after DisjunctLine n lines = n ∷ lines
 open_after EndLine n lines = drop 1 lines

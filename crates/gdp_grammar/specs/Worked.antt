@@ -3,6 +3,7 @@ use Rattle.std.specs.Prelude.{ℕ, pos, List, [], ◌∷◌, ◌++◌, Some, cod
 use Rattle.lp_rows.specs.declared.kinds.Kind.TheVariants.{Real, Int}
 use Rattle.lp_rows.specs.declared.kinds.Rel.TheVariants.{AtMost, AtLeast}
 use Rattle.lp_rows.specs.declared.kinds.Sense.TheVariants.{Min}
+use Rattle.propositions.specs.Tree.{at_least, atom, negated, listed, no_props, prop}
 use Rattle.block_tree.specs.declared.tree.Mode.TheVariants.{Xor}
 use Rattle.block_tree.specs.Tree.{block, no_disjunctions, disjunction, disjunct, no_disjuncts}
 use Rattle.block_tree.specs.Values.{ModelTree, no_goal}
@@ -17,7 +18,7 @@ model = record {
   vars = (codes "x", Real, record { low = Some (record { num = pos 0; den = pos 1 }); high = Some (record { num = pos 10; den = pos 1 }) }, 2) ∷ [];
   booleans = [];
   goal = no_goal;
-  root = block (record { rows = (record { terms = (0, pos 2) ∷ []; rel = AtMost; right = pos 7 }, 3) ∷ [] }) no_disjunctions;
+  root = block (record { rows = (record { terms = (0, pos 2) ∷ []; rel = AtMost; right = pos 7 }, 3) ∷ []; props = [] }) no_disjunctions;
 }
 
 -- the line `gdp 01`
@@ -37,12 +38,27 @@ nested_model = record {
   vars = (codes "n", Int, record { low = Some (record { num = pos 0; den = pos 1 }); high = Some (record { num = pos 9; den = pos 1 }) }, 2) ∷ [];
   booleans = (codes "z", 3) ∷ (codes "a", 6) ∷ (codes "b", 9) ∷ [];
   goal = record { sense = Min; terms = (0, pos 1) ∷ []; constant = pos 6; scale = pos 2; mark = 4 };
-  root = block (record { rows = [] }) (disjunction (record { mode = Xor; mark = 5 })
-      (disjunct (record { indicator = 1; mark = 6 }) (block (record { rows = (record { terms = (0, pos 2) ∷ []; rel = AtLeast; right = pos 5 }, 7) ∷ [] }) no_disjunctions)
-      (disjunct (record { indicator = 2; mark = 9 }) (block (record { rows = (record { terms = (0, pos 1) ∷ []; rel = AtMost; right = pos 1 }, 10) ∷ [] }) no_disjunctions)
+  root = block (record { rows = []; props = [] }) (disjunction (record { mode = Xor; mark = 5 })
+      (disjunct (record { indicator = 1; mark = 6 }) (block (record { rows = (record { terms = (0, pos 2) ∷ []; rel = AtLeast; right = pos 5 }, 7) ∷ []; props = [] }) no_disjunctions)
+      (disjunct (record { indicator = 2; mark = 9 }) (block (record { rows = (record { terms = (0, pos 1) ∷ []; rel = AtMost; right = pos 1 }, 10) ∷ []; props = [] }) no_disjunctions)
       no_disjuncts)) no_disjunctions);
 }
 
--- a line that is not read yet, before any header
+-- two Booleans and a proposition
 abbrev pub logic : List ℕ
-logic = codes "logic p" ++ 10 ∷ []
+logic =
+    codes "gdp 1" ++ 10 ∷ codes "var x real 0 1" ++ 10 ∷ codes "boolean p" ++ 10 ∷ codes "boolean q" ++ 10
+    ∷ codes "logic atleast(1, p, not(q))" ++ 10 ∷ []
+
+-- its model
+abbrev pub logic_model : ModelTree
+logic_model = record {
+  vars = (codes "x", Real, record { low = Some (record { num = pos 0; den = pos 1 }); high = Some (record { num = pos 1; den = pos 1 }) }, 2) ∷ [];
+  booleans = (codes "p", 3) ∷ (codes "q", 4) ∷ [];
+  goal = no_goal;
+  root = block (record { rows = []; props = (listed (at_least 1) (prop (atom 0) (prop (negated (atom 1)) no_props)), 5) ∷ [] }) no_disjunctions;
+}
+
+-- a proposition that names a Boolean of a later line
+abbrev pub unknown : List ℕ
+unknown = codes "gdp 1" ++ 10 ∷ codes "var x real 0 1" ++ 10 ∷ codes "logic p" ++ 10 ∷ codes "boolean p" ++ 10 ∷ []

@@ -21,6 +21,4 @@ pub enum ReadCause {
     Limit,
     /// Something that has to stand there is missing.
     Missing,
-    /// The line's first word is `logic`: such lines aren't read yet. This is tested before all others.
-    NotBuilt,
 }
