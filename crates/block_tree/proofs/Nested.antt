@@ -410,9 +410,10 @@ close_disjunct_counted t b (o ∷ os) e f w =
     let rows : rows_in_opened b.opened ≡ 0 = ap rows_in_opened e in
     let around : rows_around b.outer ≡ rows_in_open o.0 + row_count_within (disjuncts o.1.closed) + rows_around os = ap rows_around f in
     let nodes : nodes_in_opened b.opened ≡ 0 = ap nodes_in_opened e in
-    let outside : nodes_around b.outer ≡ nodes_in_open o.0 + node_total_within (disjuncts o.1.closed) + nodes_around os = ap nodes_around f in
-    (omega (arith, w.0, rows, around, row_count_within-push o.1.closed (closed_disjunct b.inner)),
-    omega (arith, w.1, nodes, outside, node_total_within-push o.1.closed (closed_disjunct b.inner)))
+    let outside : nodes_around b.outer ≡ nodes_in_open o.0 + node_total_within (disjuncts o.1.closed) + nodes_around os = ap nodes_around f in (
+      omega (arith, w.0, rows, around, row_count_within-push o.1.closed (closed_disjunct b.inner)),
+      omega (arith, w.1, nodes, outside, node_total_within-push o.1.closed (closed_disjunct b.inner)),
+    )
 
 close_opened_counted : (t : Totals) (o : Option OpenDisjunction) (b : BuildingValue) → b.opened ≡ o → IsCounted t b → IsCounted t (close_opened o b).1
 close_opened_counted t (Some d) b e w =
