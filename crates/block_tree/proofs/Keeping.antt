@@ -12,13 +12,18 @@ use Rattle.lp_rows.specs.declared.kinds.Kind.{Kind}
 use Rattle.lp_rows.specs.declared.kinds.Rel.{Rel}
 use Rattle.lp_rows.specs.Holding.{ids_below}
 use Rattle.lp_rows.specs.Rows.{RowValue, is_storable, row_refusal}
+use Rattle.propositions.specs.Tree.{PropTree, atom, negated, paired, listed, PropTrees, no_props, prop}
+use Rattle.propositions.specs.Truth.{are_ids_below as are_booleans_below, are_all_ids_below as are_all_booleans_below}
 use Rattle.block_tree.specs.declared.bounds.Bound.{Bound}
 use Rattle.block_tree.specs.declared.errors.BuildError.{BuildError}
 use Rattle.block_tree.specs.declared.errors.BuildError.TheVariants.{Place, NameTwice, NameUnknown, Number, Limit, Memory}
+use Rattle.block_tree.specs.declared.parts.Totals.{Totals}
+use Rattle.block_tree.specs.Builders.{IsCounted}
 use Rattle.block_tree.specs.Building.{OpenBlock, OpenDisjunction, BuildingValue, is_empty, is_at_root, is_taken, is_bound, refusal_of_var, var_outcome, refusal_of_terms, refusal_of_row, row_outcome, are_ids_below, are_numbers, stored_row, rows_so_far}
 use Rattle.block_tree.specs.Names.{has_name, is_name}
+use Rattle.block_tree.specs.Props.{has_small_numbers, is_shallow_prop, has_fair_lists, is_prop_sound}
 use Rattle.block_tree.specs.Scaling.{insert_term, sorted_among, sorted_terms, scaled, scaled_terms, stored_terms, scale_of, has_id_twice}
-use Rattle.block_tree.specs.Sound.{are_names, names_of, are_rows_below, is_filled, is_block_sound, are_disjunctions_sound, are_disjuncts_sound, is_open_sound, is_opened_sound, is_placed, are_around_sound, is_goal_sound, is_given_sound, AreEndsLowest, IsNested, IsWhole}
+use Rattle.block_tree.specs.Sound.{are_names, names_of, are_rows_below, are_props_sound, is_filled, is_block_sound, are_disjunctions_sound, are_disjuncts_sound, is_open_sound, is_opened_sound, is_placed, are_around_sound, is_goal_sound, is_given_sound, AreEndsLowest, IsNested, IsWhole}
 use Rattle.block_tree.specs.Values.{GoalValue}
 use Rattle.block_tree.specs.Tree.{BlockTree, block, Disjunctions, no_disjunctions, disjunction, Disjuncts, no_disjuncts, disjunct}
 use Rattle.block_tree.specs.View.{disjuncts, disjunctions}
@@ -62,7 +67,7 @@ pub not_false : (a : Bool) → not a ≡ false → a ≡ true
 not_false true h = refl
 not_false false h = cc
 
-all_append : {A : Type 0} (test : A → Bool) (xs ys : List A) → list_all test xs ≡ true → list_all test ys ≡ true → list_all test (xs ++ ys) ≡ true
+pub all_append : {A : Type 0} (test : A → Bool) (xs ys : List A) → list_all test xs ≡ true → list_all test ys ≡ true → list_all test (xs ++ ys) ≡ true
 all_append test [] ys p q = q
 all_append test (x ∷ xs) ys p q =
     let h = both (test x) (list_all test xs) p in and_true (test x) (list_all test (xs ++ ys)) h.0 (all_append test xs ys h.1 q)
@@ -126,10 +131,46 @@ rows_more n k (r ∷ rs) l h =
     and_true (ids_below k r.0.terms) (are_rows_below k rs) (ids_more n k r.0.terms l p.0) (rows_more n k rs l p.1)
 
 mutual
+  booleans_more : (m j : ℕ) (p : PropTree) → m ≤ j → are_booleans_below m p ≡ true → are_booleans_below j p ≡ true
+  booleans_more m j (atom k) q h = lt_more k m j q h
+  booleans_more m j (negated p) q h = booleans_more m j p q h
+  booleans_more m j (paired c a b) q h =
+      let x = both (are_booleans_below m a) (are_booleans_below m b) h in
+      and_true (are_booleans_below j a) (are_booleans_below j b) (booleans_more m j a q x.0) (booleans_more m j b q x.1)
+  booleans_more m j (listed c ps) q h = all_booleans_more m j ps q h
+
+  all_booleans_more : (m j : ℕ) (ps : PropTrees) → m ≤ j → are_all_booleans_below m ps ≡ true → are_all_booleans_below j ps ≡ true
+  all_booleans_more m j no_props q h = refl
+  all_booleans_more m j (prop p ps) q h =
+      let x = both (are_booleans_below m p) (are_all_booleans_below m ps) h in
+      and_true (are_booleans_below j p) (are_all_booleans_below j ps) (booleans_more m j p q x.0) (all_booleans_more m j ps q x.1)
+
+prop_more : (m j : ℕ) (p : PropTree) → m ≤ j → is_prop_sound m p ≡ true → is_prop_sound j p ≡ true
+prop_more m j p q h =
+    let x = both (are_booleans_below m p) (has_small_numbers p && (is_shallow_prop p && has_fair_lists p)) h in
+    and_true (are_booleans_below j p) (has_small_numbers p && (is_shallow_prop p && has_fair_lists p)) (booleans_more m j p q x.0) x.1
+
+props_more : (m j : ℕ) (props : List (PropTree × ℕ)) → m ≤ j → are_props_sound m props ≡ true → are_props_sound j props ≡ true
+props_more m j [] q h = refl
+props_more m j (p ∷ ps) q h =
+    let x = both (is_prop_sound m p.0) (are_props_sound m ps) h in
+    and_true (is_prop_sound j p.0) (are_props_sound j ps) (prop_more m j p.0 q x.0) (props_more m j ps q x.1)
+
+-- the three parts of what is sound in a block
+pub block_parts : (a b c : Bool) → (a && (b && c)) ≡ true → (a ≡ true) × (b ≡ true) × (c ≡ true)
+block_parts a b c h =
+    let p = both a (b && c) h in
+    let q = both b c p.1 in (p.0, q.0, q.1)
+
+pub block_whole : (a b c : Bool) → a ≡ true → b ≡ true → c ≡ true → (a && (b && c)) ≡ true
+block_whole a b c p q r = and_true a (b && c) p (and_true b c q r)
+
+mutual
   block_more : (n k m j : ℕ) (b : BlockTree) → n ≤ k → m ≤ j → is_block_sound n m b ≡ true → is_block_sound k j b ≡ true
   block_more n k m j (block items ds) l q h =
-      let p = both (are_rows_below n items.rows) (are_disjunctions_sound n m ds) h in
-      and_true (are_rows_below k items.rows) (are_disjunctions_sound k j ds) (rows_more n k items.rows l p.0) (disjunctions_more n k m j ds l q p.1)
+      let p = block_parts (are_rows_below n items.rows) (are_props_sound m items.props) (are_disjunctions_sound n m ds) h in
+      block_whole (are_rows_below k items.rows) (are_props_sound j items.props) (are_disjunctions_sound k j ds) (rows_more n k items.rows l p.0)
+      (props_more m j items.props q p.1) (disjunctions_more n k m j ds l q p.2)
 
   disjunctions_more : (n k m j : ℕ) (ds : Disjunctions) → n ≤ k → m ≤ j → are_disjunctions_sound n m ds ≡ true → are_disjunctions_sound k j ds ≡ true
   disjunctions_more n k m j no_disjunctions l q h = refl
@@ -149,8 +190,9 @@ mutual
 
 pub open_more : (n k m j : ℕ) (o : OpenBlock) → n ≤ k → m ≤ j → is_open_sound n m o ≡ true → is_open_sound k j o ≡ true
 open_more n k m j o l q h =
-    let p = both (are_rows_below n o.rows) (are_disjunctions_sound n m (disjunctions o.closed)) h in
-    and_true (are_rows_below k o.rows) (are_disjunctions_sound k j (disjunctions o.closed)) (rows_more n k o.rows l p.0) (disjunctions_more n k m j (disjunctions o.closed) l q p.1)
+    let p = block_parts (are_rows_below n o.rows) (are_props_sound m o.props) (are_disjunctions_sound n m (disjunctions o.closed)) h in
+    block_whole (are_rows_below k o.rows) (are_props_sound j o.props) (are_disjunctions_sound k j (disjunctions o.closed)) (rows_more n k o.rows l p.0)
+    (props_more m j o.props q p.1) (disjunctions_more n k m j (disjunctions o.closed) l q p.2)
 
 pub opened_more : (n k m j : ℕ) (d : Option OpenDisjunction) → n ≤ k → m ≤ j → is_opened_sound n m d ≡ true → is_opened_sound k j d ≡ true
 opened_more n k m j None l q h = refl
@@ -215,6 +257,7 @@ var_keeps_whole name kind bound mark b next r a o w =
       few_variables = rw e (below_limit 500 (length b.vars) t.0);
       few_booleans = w.few_booleans;
       few_rows = w.few_rows;
+      few_nodes = w.few_nodes;
       goal = rw e (given_more (length b.vars) (length b.vars + 1) b.goal (omega arith) w.goal);
       inner = rw e (open_more (length b.vars) (length b.vars + 1) (length b.booleans) (length b.booleans) b.inner (omega arith) (omega arith) w.inner);
       opened = rw e (opened_more (length b.vars) (length b.vars + 1) (length b.booleans) (length b.booleans) b.opened (omega arith) (omega arith) w.opened);
@@ -285,26 +328,32 @@ row_keeps_whole terms rel right mark b w =
     ids_scaled (length b.vars) k (sorted_terms terms) ∙ ids_sorted (length b.vars) [] terms refl (not_false (are_ids_below (length b.vars) terms) r.0) in
     let e : length (b.inner.rows ++ (row, mark) ∷ []) ≡ length b.inner.rows + 1 = length-append b.inner.rows ((row, mark) ∷ []) in
     let m = below_limit 1000 (rows_so_far b) t.0 in
-    let x = both (are_rows_below (length b.vars) b.inner.rows) (are_disjunctions_sound (length b.vars) (length b.booleans) (disjunctions b.inner.closed)) w.inner in
+    let x = block_parts (are_rows_below (length b.vars) b.inner.rows) (are_props_sound (length b.booleans) b.inner.props) (are_disjunctions_sound (length b.vars) (length b.booleans) (disjunctions b.inner.closed)) w.inner in
     let y : are_rows_below (length b.vars) (b.inner.rows ++ (row, mark) ∷ []) ≡ true =
     all_append (λ a. ids_below (length b.vars) a.0.terms) b.inner.rows ((row, mark) ∷ []) x.0 (and_true (ids_below (length b.vars) row.terms) true ids refl) in
     record {
       few_variables = w.few_variables;
       few_booleans = w.few_booleans;
       few_rows = omega (arith, e, m);
+      few_nodes = w.few_nodes;
       names = w.names;
       bounds = w.bounds;
       ends = w.ends;
       scale = w.scale;
       nested = row_nested (length b.booleans) b.inner next.inner.rows b.opened b.outer w.nested;
       goal = w.goal;
-      inner = and_true (are_rows_below (length b.vars) next.inner.rows) (are_disjunctions_sound (length b.vars) (length b.booleans) (disjunctions b.inner.closed)) y x.1;
+      inner = block_whole (are_rows_below (length b.vars) next.inner.rows) (are_props_sound (length b.booleans) b.inner.props) (are_disjunctions_sound (length b.vars) (length b.booleans) (disjunctions b.inner.closed)) y x.1 x.2;
       opened = w.opened;
       placed = w.placed;
       outer = w.outer;
     })
 
-pub var_keeps_rows : (name : List ℕ) (kind : Kind) (bound : Bound) (mark : ℕ) (b : BuildingValue) → rows_so_far (var_outcome name kind bound mark b).1 ≡ rows_so_far b
-var_keeps_rows name kind bound mark b =
-    unless_keeps (λ s. rows_so_far s ≡ rows_so_far b) (refusal_of_var name bound b) b (length b.vars)
-    (record b { vars = b.vars ++ (name, kind, bound, mark) ∷ [] }) refl (λ _. refl)
+pub var_keeps_counted : (t : Totals) (name : List ℕ) (kind : Kind) (bound : Bound) (mark : ℕ) (b : BuildingValue) → IsCounted t b → IsCounted t (var_outcome name kind bound mark b).1
+var_keeps_counted t name kind bound mark b w =
+    unless_keeps (IsCounted t) (refusal_of_var name bound b) b (length b.vars) (record b { vars = b.vars ++ (name, kind, bound, mark) ∷ [] }) w (λ _. w)
+
+-- a call that leaves the totals keeps them right where its outcome does
+pub counted_keeps : {A E : Type 0} (t after : Totals) (memory : E) (s : BuildingValue) (outcome : Result A E × BuildingValue) (r : Result A E) (next : BuildingValue)
+    → Acts memory s outcome r next → after ≡ t → IsCounted t s → IsCounted t outcome.1 → IsCounted after next
+counted_keeps t after memory s outcome r next a e p q =
+    subst (λ (x : Totals). IsCounted x next) (sym e) (acts_keep (IsCounted t) memory s outcome r next a p q)

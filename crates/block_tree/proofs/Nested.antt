@@ -13,17 +13,20 @@ use Rattle.lp_rows.specs.Holding.{ids_below}
 use Rattle.lp_rows.specs.Rows.{is_storable, row_refusal, ascends_from, has_zero, are_storable}
 use Rattle.block_tree.specs.declared.errors.BuildError.{BuildError}
 use Rattle.block_tree.specs.declared.errors.BuildError.TheVariants.{Place, NameTwice, NameUnknown, Number, Nesting, Limit, Missing, Memory}
+use Rattle.block_tree.specs.declared.parts.Totals.{Totals}
 use Rattle.block_tree.specs.declared.tree.Mode.{Mode}
 use Rattle.block_tree.specs.Building.{OpenBlock, OpenDisjunction, BuildingValue, empty_block, is_empty, is_at_root, is_taken, are_ids_below, are_numbers, has_small_parts, refusal_of_terms, rows_so_far, rows_in_open, rows_in_opened, rows_around, closed_block}
+use Rattle.block_tree.specs.Builders.{IsCounted}
 use Rattle.block_tree.specs.Names.{has_name, is_name}
 use Rattle.block_tree.specs.Nesting.{refusal_of_boolean, boolean_outcome, refusal_of_scale, refusal_of_goal, stored_goal, goal_outcome, open_disjunction_outcome, refusal_of_disjunct, with_disjunct, open_disjunct_in, open_disjunct_outcome, closed_disjunct, closed_disjunction, close_disjunction, close_disjunct, close_opened, close_outcome}
+use Rattle.block_tree.specs.Props.{nodes_so_far, nodes_in_open, nodes_in_opened, nodes_around}
 use Rattle.block_tree.specs.Scaling.{has_id, has_id_twice, sorted_among, sorted_terms, scaled, scaled_terms, stored_terms, scale_of, least_scale, least_multiple_from, all_divide, product_of, denominators, insert_term, AreLowest}
-use Rattle.block_tree.specs.Sound.{are_names, names_of, are_rows_below, is_filled, is_block_sound, are_disjunctions_sound, are_disjuncts_sound, is_open_sound, is_opened_sound, is_placed, are_around_sound, is_goal_sound, is_given_sound, IsScaleLeast, IsNested, IsWhole}
-use Rattle.block_tree.specs.Tree.{BlockTree, block, Disjunctions, no_disjunctions, disjunction, Disjuncts, no_disjuncts, disjunct, DisjunctionHead, DisjunctHead, row_count, row_count_below, row_count_within}
+use Rattle.block_tree.specs.Sound.{are_names, names_of, are_rows_below, are_props_sound, is_filled, is_block_sound, are_disjunctions_sound, are_disjuncts_sound, is_open_sound, is_opened_sound, is_placed, are_around_sound, is_goal_sound, is_given_sound, IsScaleLeast, IsNested, IsWhole}
+use Rattle.block_tree.specs.Tree.{BlockTree, block, Disjunctions, no_disjunctions, disjunction, Disjuncts, no_disjuncts, disjunct, DisjunctionHead, DisjunctHead, row_count, row_count_below, row_count_within, node_total, node_total_below, node_total_within}
 use Rattle.block_tree.specs.Values.{GoalValue}
 use Rattle.block_tree.specs.Variables.{BooleanValue}
 use Rattle.block_tree.specs.View.{DisjunctTree, DisjunctionTree, disjuncts, disjunctions}
-use Rattle.block_tree.proofs.Keeping.{accepted_keeps, unless_keeps, refuses_not, both, and_true, neither, not_false, below_limit, names_middle, has_append, ids_sorted, ids_scaled, open_more, opened_more, placed_more, around_more, around_parts, around_whole, disjuncts_more, given_more}
+use Rattle.block_tree.proofs.Keeping.{block_parts, block_whole, accepted_keeps, unless_keeps, refuses_not, both, and_true, neither, not_false, below_limit, names_middle, has_append, ids_sorted, ids_scaled, open_more, opened_more, placed_more, around_more, around_parts, around_whole, disjuncts_more, given_more}
 use Rattle.block_tree.proofs.Multiples.{ascends_scaled}
 use Rattle.block_tree.proofs.Places.{boolean_nested, disjunction_nested, disjunct_nested, closed_disjunction_nested, closed_disjunct_nested}
 use Rattle.block_tree.proofs.Scales.{scale_least}
@@ -72,6 +75,7 @@ boolean_keeps_whole name mark b w =
       few_variables = w.few_variables;
       few_booleans = v.few_booleans;
       few_rows = w.few_rows;
+      few_nodes = w.few_nodes;
       names = v.names;
       bounds = w.bounds;
       ends = w.ends;
@@ -84,10 +88,9 @@ boolean_keeps_whole name mark b w =
       outer = v.outer;
     })
 
-pub boolean_keeps_rows : (name : List ℕ) (mark : ℕ) (b : BuildingValue) → rows_so_far (boolean_outcome name mark b).1 ≡ rows_so_far b
-boolean_keeps_rows name mark b =
-    unless_keeps (λ s. rows_so_far s ≡ rows_so_far b) (refusal_of_boolean name b) b (length b.booleans)
-    (record b { booleans = b.booleans ++ (name, mark) ∷ [] }) refl (λ _. refl)
+pub boolean_keeps_counted : (t : Totals) (name : List ℕ) (mark : ℕ) (b : BuildingValue) → IsCounted t b → IsCounted t (boolean_outcome name mark b).1
+boolean_keeps_counted t name mark b w =
+    unless_keeps (IsCounted t) (refusal_of_boolean name b) b (length b.booleans) (record b { booleans = b.booleans ++ (name, mark) ∷ [] }) w (λ _. w)
 
 -- a goal
 
@@ -166,6 +169,7 @@ goal_keeps_whole sense terms constant mark b next answer acts lowest w =
       few_variables = w.few_variables;
       few_booleans = w.few_booleans;
       few_rows = w.few_rows;
+      few_nodes = w.few_nodes;
       names = w.names;
       bounds = w.bounds;
       ends = w.ends;
@@ -178,10 +182,9 @@ goal_keeps_whole sense terms constant mark b next answer acts lowest w =
       outer = w.outer;
     })
 
-pub goal_keeps_rows : (sense : Sense) (terms : List (ℕ × Fraction)) (constant : Fraction) (mark : ℕ) (b : BuildingValue) → rows_so_far (goal_outcome sense terms constant mark b).1 ≡ rows_so_far b
-goal_keeps_rows sense terms constant mark b =
-    unless_keeps (λ s. rows_so_far s ≡ rows_so_far b) (refusal_of_goal terms constant b) b tt
-    (record b { goal = Some (stored_goal sense terms constant mark) }) refl (λ _. refl)
+pub goal_keeps_counted : (t : Totals) (sense : Sense) (terms : List (ℕ × Fraction)) (constant : Fraction) (mark : ℕ) (b : BuildingValue) → IsCounted t b → IsCounted t (goal_outcome sense terms constant mark b).1
+goal_keeps_counted t sense terms constant mark b w =
+    unless_keeps (IsCounted t) (refusal_of_goal terms constant b) b tt (record b { goal = Some (stored_goal sense terms constant mark) }) w (λ _. w)
 
 -- a disjunction is opened
 
@@ -198,6 +201,7 @@ open_disjunction_keeps_whole mode mark b w =
       few_variables = w.few_variables;
       few_booleans = w.few_booleans;
       few_rows = omega (arith, w.few_rows);
+      few_nodes = omega (arith, w.few_nodes);
       names = w.names;
       bounds = w.bounds;
       ends = w.ends;
@@ -214,11 +218,15 @@ rows_at_none : (o : Option OpenDisjunction) → is_some o ≡ false → rows_in_
 rows_at_none None h = refl
 rows_at_none (Some d) h = cc
 
-pub open_disjunction_keeps_rows : (mode : Mode) (mark : ℕ) (b : BuildingValue) → rows_so_far (open_disjunction_outcome mode mark b).1 ≡ rows_so_far b
-open_disjunction_keeps_rows mode mark b =
-    unless_keeps (λ s. rows_so_far s ≡ rows_so_far b) (refuse_if (is_some b.opened) Place None) b tt
-    (record b { opened = Some (record { mode = mode; mark = mark; closed = [] }) }) refl
-    (λ h. let p = refuses_not (is_some b.opened) Place None h in omega (arith, rows_at_none b.opened p.0))
+nodes_at_none : (o : Option OpenDisjunction) → is_some o ≡ false → nodes_in_opened o ≡ 0
+nodes_at_none None h = refl
+nodes_at_none (Some d) h = cc
+
+pub open_disjunction_keeps_counted : (t : Totals) (mode : Mode) (mark : ℕ) (b : BuildingValue) → IsCounted t b → IsCounted t (open_disjunction_outcome mode mark b).1
+open_disjunction_keeps_counted t mode mark b w =
+    unless_keeps (IsCounted t) (refuse_if (is_some b.opened) Place None) b tt
+    (record b { opened = Some (record { mode = mode; mark = mark; closed = [] }) }) w
+    (λ h. let p = refuses_not (is_some b.opened) Place None h in (omega (arith, w.0, rows_at_none b.opened p.0), omega (arith, w.1, nodes_at_none b.opened p.0)))
 
 -- a disjunct is opened
 
@@ -249,11 +257,13 @@ disjunct_whole name mark b d o w h =
     let m = length (b.booleans ++ (name, mark) ∷ []) in
     let n = length b.vars in
     let rows : rows_in_opened b.opened ≡ row_count_within (disjuncts d.closed) = ap rows_in_opened o in
+    let nodes : nodes_in_opened b.opened ≡ node_total_within (disjuncts d.closed) = ap nodes_in_opened o in
     let sound : are_disjuncts_sound n m (disjuncts d.closed) ≡ true = ap (is_opened_sound n m) (sym o) ∙ v.opened in
     record {
       few_variables = w.few_variables;
       few_booleans = v.few_booleans;
       few_rows = omega (arith, w.few_rows, rows);
+      few_nodes = omega (arith, w.few_nodes, nodes);
       names = v.names;
       bounds = w.bounds;
       ends = w.ends;
@@ -274,14 +284,15 @@ open_disjunct_keeps (Some d) name mark b e w =
 pub open_disjunct_keeps_whole : (name : List ℕ) (mark : ℕ) (b : BuildingValue) → IsWhole b → IsWhole (open_disjunct_outcome name mark b).1
 open_disjunct_keeps_whole name mark b w = open_disjunct_keeps b.opened name mark b refl w
 
-open_disjunct_rows : (o : Option OpenDisjunction) (name : List ℕ) (mark : ℕ) (b : BuildingValue) → b.opened ≡ o → rows_so_far (open_disjunct_in o name mark b).1 ≡ rows_so_far b
-open_disjunct_rows None name mark b e = refl
-open_disjunct_rows (Some d) name mark b e =
+open_disjunct_counted : (t : Totals) (o : Option OpenDisjunction) (name : List ℕ) (mark : ℕ) (b : BuildingValue) → b.opened ≡ o → IsCounted t b → IsCounted t (open_disjunct_in o name mark b).1
+open_disjunct_counted t None name mark b e w = w
+open_disjunct_counted t (Some d) name mark b e w =
     let rows : rows_in_opened b.opened ≡ row_count_within (disjuncts d.closed) = ap rows_in_opened e in
-    unless_keeps (λ s. rows_so_far s ≡ rows_so_far b) (refusal_of_disjunct name b) b (length b.booleans) (with_disjunct name mark b d) refl (λ _. omega (arith, rows))
+    let nodes : nodes_in_opened b.opened ≡ node_total_within (disjuncts d.closed) = ap nodes_in_opened e in
+    unless_keeps (IsCounted t) (refusal_of_disjunct name b) b (length b.booleans) (with_disjunct name mark b d) w (λ _. (omega (arith, w.0, rows), omega (arith, w.1, nodes)))
 
-pub open_disjunct_keeps_rows : (name : List ℕ) (mark : ℕ) (b : BuildingValue) → rows_so_far (open_disjunct_outcome name mark b).1 ≡ rows_so_far b
-open_disjunct_keeps_rows name mark b = open_disjunct_rows b.opened name mark b refl
+pub open_disjunct_keeps_counted : (t : Totals) (name : List ℕ) (mark : ℕ) (b : BuildingValue) → IsCounted t b → IsCounted t (open_disjunct_outcome name mark b).1
+open_disjunct_keeps_counted t name mark b w = open_disjunct_counted t b.opened name mark b refl w
 
 -- what is innermost is closed
 
@@ -309,6 +320,14 @@ row_count_within-push : (js : List DisjunctTree) (j : DisjunctTree) → row_coun
 row_count_within-push [] j = omega arith
 row_count_within-push (x ∷ xs) j = omega (arith, row_count_within-push xs j)
 
+node_total_below-push : (ds : List DisjunctionTree) (d : DisjunctionTree) → node_total_below (disjunctions (ds ++ d ∷ [])) ≡ node_total_below (disjunctions ds) + node_total_within d.1
+node_total_below-push [] d = omega arith
+node_total_below-push (x ∷ xs) d = omega (arith, node_total_below-push xs d)
+
+node_total_within-push : (js : List DisjunctTree) (j : DisjunctTree) → node_total_within (disjuncts (js ++ j ∷ [])) ≡ node_total_within (disjuncts js) + node_total j.1
+node_total_within-push [] j = omega arith
+node_total_within-push (x ∷ xs) j = omega (arith, node_total_within-push xs j)
+
 filled : (js : List DisjunctTree) → is_empty js ≡ false → is_filled (disjuncts js) ≡ true
 filled [] h = cc
 filled (j ∷ js) h = refl
@@ -323,23 +342,26 @@ close_disjunction_whole b d o w =
     let m = length b.booleans in
     let next : BuildingValue = record b { inner = record b.inner { closed = b.inner.closed ++ closed_disjunction d ∷ [] }; opened = None } in
     let rows : rows_in_opened b.opened ≡ row_count_within (disjuncts d.closed) = ap rows_in_opened o in
+    let nodes : nodes_in_opened b.opened ≡ node_total_within (disjuncts d.closed) = ap nodes_in_opened o in
     let sound : are_disjuncts_sound n m (disjuncts d.closed) ≡ true = ap (is_opened_sound n m) (sym o) ∙ w.opened in
     let count = row_count_below-push b.inner.closed (closed_disjunction d) in
+    let weight = node_total_below-push b.inner.closed (closed_disjunction d) in
     unless_keeps IsWhole (refuse_if (is_empty d.closed) Missing None) b tt next w (λ h.
     let p = refuses_not (is_empty d.closed) Missing None h in
-    let x = both (are_rows_below n b.inner.rows) (are_disjunctions_sound n m (disjunctions b.inner.closed)) w.inner in
+    let x = block_parts (are_rows_below n b.inner.rows) (are_props_sound m b.inner.props) (are_disjunctions_sound n m (disjunctions b.inner.closed)) w.inner in
     record {
       few_variables = w.few_variables;
       few_booleans = w.few_booleans;
       few_rows = omega (arith, w.few_rows, rows, count);
+      few_nodes = omega (arith, w.few_nodes, nodes, weight);
       names = w.names;
       bounds = w.bounds;
       ends = w.ends;
       scale = w.scale;
       nested = closed_disjunction_nested m b.inner d b.outer (subst (λ y. IsNested m b.inner y b.outer) o w.nested);
       goal = w.goal;
-      inner = and_true (are_rows_below n b.inner.rows) (are_disjunctions_sound n m (disjunctions next.inner.closed)) x.0
-          (disjunctions_sound_push n m b.inner.closed (closed_disjunction d) x.1 (filled d.closed p.0) sound);
+      inner = block_whole (are_rows_below n b.inner.rows) (are_props_sound m b.inner.props) (are_disjunctions_sound n m (disjunctions next.inner.closed)) x.0 x.1
+          (disjunctions_sound_push n m b.inner.closed (closed_disjunction d) x.2 (filled d.closed p.0) sound);
       opened = refl;
       placed = w.placed;
       outer = w.outer;
@@ -355,10 +377,14 @@ close_disjunct_whole b (o ∷ os) e f w =
     let rows : rows_in_opened b.opened ≡ 0 = ap rows_in_opened e in
     let around : rows_around b.outer ≡ rows_in_open o.0 + row_count_within (disjuncts o.1.closed) + rows_around os = ap rows_around f in
     let count = row_count_within-push o.1.closed (closed_disjunct b.inner) in
+    let nodes : nodes_in_opened b.opened ≡ 0 = ap nodes_in_opened e in
+    let outside : nodes_around b.outer ≡ nodes_in_open o.0 + node_total_within (disjuncts o.1.closed) + nodes_around os = ap nodes_around f in
+    let weight = node_total_within-push o.1.closed (closed_disjunct b.inner) in
     record {
       few_variables = w.few_variables;
       few_booleans = w.few_booleans;
       few_rows = omega (arith, w.few_rows, rows, around, count);
+      few_nodes = omega (arith, w.few_nodes, nodes, outside, weight);
       names = w.names;
       bounds = w.bounds;
       ends = w.ends;
@@ -378,20 +404,25 @@ close_opened_whole None b e w = close_disjunct_whole b b.outer e refl w
 pub close_keeps_whole : (b : BuildingValue) → IsWhole b → IsWhole (close_outcome b).1
 close_keeps_whole b w = close_opened_whole b.opened b refl w
 
-close_disjunct_rows : (b : BuildingValue) (os : List (OpenBlock × OpenDisjunction)) → b.opened ≡ None → b.outer ≡ os → rows_so_far (close_disjunct b os).1 ≡ rows_so_far b
-close_disjunct_rows b [] e f = refl
-close_disjunct_rows b (o ∷ os) e f =
+close_disjunct_counted : (t : Totals) (b : BuildingValue) (os : List (OpenBlock × OpenDisjunction)) → b.opened ≡ None → b.outer ≡ os → IsCounted t b → IsCounted t (close_disjunct b os).1
+close_disjunct_counted t b [] e f w = w
+close_disjunct_counted t b (o ∷ os) e f w =
     let rows : rows_in_opened b.opened ≡ 0 = ap rows_in_opened e in
     let around : rows_around b.outer ≡ rows_in_open o.0 + row_count_within (disjuncts o.1.closed) + rows_around os = ap rows_around f in
-    omega (arith, rows, around, row_count_within-push o.1.closed (closed_disjunct b.inner))
+    let nodes : nodes_in_opened b.opened ≡ 0 = ap nodes_in_opened e in
+    let outside : nodes_around b.outer ≡ nodes_in_open o.0 + node_total_within (disjuncts o.1.closed) + nodes_around os = ap nodes_around f in (
+      omega (arith, w.0, rows, around, row_count_within-push o.1.closed (closed_disjunct b.inner)),
+      omega (arith, w.1, nodes, outside, node_total_within-push o.1.closed (closed_disjunct b.inner)),
+    )
 
-close_opened_rows : (o : Option OpenDisjunction) (b : BuildingValue) → b.opened ≡ o → rows_so_far (close_opened o b).1 ≡ rows_so_far b
-close_opened_rows (Some d) b e =
+close_opened_counted : (t : Totals) (o : Option OpenDisjunction) (b : BuildingValue) → b.opened ≡ o → IsCounted t b → IsCounted t (close_opened o b).1
+close_opened_counted t (Some d) b e w =
     let rows : rows_in_opened b.opened ≡ row_count_within (disjuncts d.closed) = ap rows_in_opened e in
-    unless_keeps (λ s. rows_so_far s ≡ rows_so_far b) (refuse_if (is_empty d.closed) Missing None) b tt
-    (record b { inner = record b.inner { closed = b.inner.closed ++ closed_disjunction d ∷ [] }; opened = None }) refl
-    (λ _. omega (arith, rows, row_count_below-push b.inner.closed (closed_disjunction d)))
-close_opened_rows None b e = close_disjunct_rows b b.outer e refl
+    let nodes : nodes_in_opened b.opened ≡ node_total_within (disjuncts d.closed) = ap nodes_in_opened e in
+    unless_keeps (IsCounted t) (refuse_if (is_empty d.closed) Missing None) b tt
+    (record b { inner = record b.inner { closed = b.inner.closed ++ closed_disjunction d ∷ [] }; opened = None }) w
+    (λ _. (omega (arith, w.0, rows, row_count_below-push b.inner.closed (closed_disjunction d)), omega (arith, w.1, nodes, node_total_below-push b.inner.closed (closed_disjunction d))))
+close_opened_counted t None b e w = close_disjunct_counted t b b.outer e refl w
 
-pub close_keeps_rows : (b : BuildingValue) → rows_so_far (close_outcome b).1 ≡ rows_so_far b
-close_keeps_rows b = close_opened_rows b.opened b refl
+pub close_keeps_counted : (t : Totals) (b : BuildingValue) → IsCounted t b → IsCounted t (close_outcome b).1
+close_keeps_counted t b w = close_opened_counted t b.opened b refl w

@@ -1,12 +1,14 @@
 -- What a builder stands for.
-use Rattle.std.specs.Prelude.{ℕ, pos, List, map, reverse, Option, None, Some}
+use Rattle.std.specs.Prelude.{◌≡◌, ℕ, pos, List, map, reverse, Option, None, Some}
 use Rattle.block_tree.specs.declared.parts.Level.{Level}
 use Rattle.block_tree.specs.declared.parts.Opened.{Opened}
 use Rattle.block_tree.specs.declared.parts.Goal.{Goal}
 use Rattle.block_tree.specs.declared.parts.Parts.{Parts}
+use Rattle.block_tree.specs.declared.parts.Totals.{Totals}
 use Rattle.lp_rows.specs.declared.kinds.Sense.{Sense}
 use Rattle.block_tree.specs.declared.scaling.Stored.{Stored}
-use Rattle.block_tree.specs.Building.{OpenBlock, OpenDisjunction, BuildingValue}
+use Rattle.block_tree.specs.Building.{OpenBlock, OpenDisjunction, BuildingValue, rows_so_far}
+use Rattle.block_tree.specs.Props.{nodes_so_far}
 use Rattle.block_tree.specs.Values.{GoalValue}
 use Rattle.block_tree.specs.View.{disjunct_of, disjunction_of, props_of}
 
@@ -45,3 +47,7 @@ building_of b = record {
   opened = opened_of b.opened;
   outer = map pair_of (reverse b.outer.items);
 }
+
+-- these are the totals of the rows and of the nodes of propositions
+abbrev pub IsCounted : Totals → BuildingValue → Type 0
+IsCounted totals b = (totals.rows ≡ rows_so_far b) × (totals.nodes ≡ nodes_so_far b)

@@ -3,8 +3,8 @@
 ghost use Rattle.std.specs.Prelude.{◌≡◌, true, Ok, Err, IfOk, IfErr, map, position};
 ghost use Rattle.std.specs.Str.{bytes_eq};
 ghost use Rattle.fractions.specs.Memory.{Acts};
-ghost use Rattle.block_tree.specs.Builders.{building_of};
-ghost use Rattle.block_tree.specs.Building.{rows_so_far, new_building, var_outcome, row_outcome, finish_outcome};
+ghost use Rattle.block_tree.specs.Builders.{building_of, IsCounted};
+ghost use Rattle.block_tree.specs.Building.{new_building, var_outcome, row_outcome, finish_outcome};
 ghost use Rattle.block_tree.specs.Nesting.{
   boolean_outcome,
   goal_outcome,
@@ -12,8 +12,10 @@ ghost use Rattle.block_tree.specs.Nesting.{
   open_disjunct_outcome,
   close_outcome,
 };
+ghost use Rattle.block_tree.specs.Props.{prop_outcome};
 ghost use Rattle.block_tree.specs.Sound.{IsWhole};
 ghost use Rattle.block_tree.specs.Values.{model_tree};
+ghost use Rattle.propositions.specs.View.{prop_tree};
 
 use crate::bounds::Bound;
 use crate::errors::BuildError;
@@ -22,6 +24,7 @@ use crate::parts::Parts;
 use crate::tree::Mode;
 use fractions::Frac;
 use lp_rows::{Kind, Rel, Sense};
+use propositions::Prop;
 use std::alloc::Global;
 
 /// A model that is being built.
@@ -32,7 +35,7 @@ use std::alloc::Global;
 pub struct ModelBuilder {
     pub(crate) parts: Parts,
     ghost whole: { IsWhole (building_of parts) },
-    ghost counted: { parts.row_total ≡ rows_so_far (building_of parts) },
+    ghost counted: { IsCounted parts.totals (building_of parts) },
 }
 
 impl ModelBuilder {
@@ -82,6 +85,19 @@ impl ModelBuilder {
             (stands_for self.new) }
     {
         self.parts.row(alloc, terms, rel, right, mark)
+    }
+
+    /// Adds a copy of a proposition to the innermost open block.
+    ///
+    /// `Place` where a disjunction is open, `NameUnknown` where an id is out of range, `Number` where the number of a
+    /// counting connective passes 1,000, `Nesting` where the proposition is more than 16 deep, an atom being 1 deep,
+    /// `Limit` where a connective has more than 200 arguments or a list without any, or where all propositions would
+    /// have more than 5,000 atoms and connectives.
+    pub fn prop(&mut self, alloc: Global, prop: &Prop, mark: u32) -> Result<(), BuildError>
+        ensures { Acts BuildError.Memory (stands_for self.old) (prop_outcome (prop_tree prop.now) mark (stands_for self.old)) result
+            (stands_for self.new) }
+    {
+        self.parts.prop(alloc, prop, mark)
     }
 
     /// Declares a Boolean, and answers its number.

@@ -12,6 +12,7 @@ pub mod bounds;
 pub mod builder;
 pub mod declarations;
 pub mod errors;
+pub mod limits;
 pub mod models;
 pub mod names;
 pub mod occurring;

@@ -6,7 +6,6 @@ ghost use Rattle.block_tree.specs.Building.{
   new_building,
   var_outcome,
   row_outcome,
-  rows_so_far,
   refusal_of_finish as finish_refusal,
   built_model,
   closed_block,
@@ -25,7 +24,17 @@ ghost use Rattle.block_tree.specs.Nesting.{
   refusal_of_scale,
 };
 ghost use Rattle.block_tree.specs.Numbers.{numbers_of};
-ghost use Rattle.block_tree.specs.Builders.{building_of, open_block_of, open_disjunction_of, goal_value_of, goal_made, given_goal};
+ghost use Rattle.block_tree.specs.Builders.{
+  building_of,
+  open_block_of,
+  open_disjunction_of,
+  goal_value_of,
+  goal_made,
+  given_goal,
+  IsCounted,
+};
+ghost use Rattle.block_tree.specs.Props.{prop_outcome};
+ghost use Rattle.propositions.specs.View.{prop_tree};
 ghost use Rattle.block_tree.specs.Scaling.{AreLowest};
 ghost use Rattle.block_tree.specs.Sound.{IsWhole, AreEndsLowest};
 ghost use Rattle.block_tree.specs.Values.{model_tree};
@@ -34,12 +43,14 @@ ghost use Rattle.block_tree.specs.View.{block_of, disjunct_of, disjunction_of};
 use crate::bounds::Bound;
 use crate::declarations::{Booleans, Variables};
 use crate::errors::BuildError;
+use crate::limits::{MOST_NODES, has_fair_lists, has_small_numbers, is_shallow};
 use crate::models::Model;
 use crate::names::is_name;
 use crate::scaling::{Stored, is_bound as is_sound_bound, stored_numbers, stored_row};
 use crate::tree::{Block, Disjunct, Disjunction, Mode};
 use fractions::Frac;
 use lp_rows::{Kind, Rel, Row, Sense, Terms, is_storable};
+use propositions::{Prop, copy, has_ids_below, node_count};
 use std::alloc::Global;
 
 /// The most variables of a model.
@@ -60,6 +71,7 @@ pub(crate) struct Level {
     pub(crate) indicator: u32,
     pub(crate) mark: u32,
     pub(crate) rows: Vec<(Row, u32)>,
+    pub(crate) props: Vec<(Prop, u32)>,
     pub(crate) disjunctions: Vec<Disjunction>,
 }
 
@@ -81,6 +93,13 @@ pub(crate) struct Goal {
     pub(crate) mark: u32,
 }
 
+/// How many rows all blocks have, and how many nodes all propositions.
+#[derive(Clone, Copy)]
+pub(crate) struct Totals {
+    pub(crate) rows: u32,
+    pub(crate) nodes: usize,
+}
+
 /// What a builder holds: the innermost open block, the disjunction that is open in it, and in `outer` the blocks
 /// around it, each with the disjunction that is open in it, the innermost last.
 #[derive(Drop)]
@@ -91,14 +110,14 @@ pub struct Parts {
     pub(crate) inner: Level,
     pub(crate) opened: Option<Opened>,
     pub(crate) outer: Vec<(Level, Opened)>,
-    pub(crate) row_total: u32,
+    pub(crate) totals: Totals,
 }
 
 impl Parts {
     /// Nothing declared, and an empty root.
     pub fn new(alloc: Global) -> Parts
         ensures value { building_of result ≡ new_building }
-        ensures counted { result.row_total ≡ 0 }
+        ensures counted { IsCounted result.totals new_building }
     {
         Parts {
             vars: Variables::new(alloc),
@@ -108,11 +127,12 @@ impl Parts {
                 indicator: 0,
                 mark: 0,
                 rows: Vec::new(alloc),
+                props: Vec::new(alloc),
                 disjunctions: Vec::new(alloc),
             },
             opened: None,
             outer: Vec::new(alloc),
-            row_total: 0,
+            totals: Totals { rows: 0, nodes: 0 },
         }
     }
 
@@ -128,7 +148,7 @@ impl Parts {
         ensures acts { Acts BuildError.Memory (building_of self.old) (var_outcome name.now kind bound mark (building_of self.old)) result
             (building_of self.new) }
         ensures ends { OnOk result (AreEndsLowest bound) }
-        ensures counted { self.new.row_total ≡ self.old.row_total }
+        ensures counted { self.new.totals ≡ self.old.totals }
     {
         if self.opened.is_some() || !self.outer.is_empty() {
             return Err(BuildError::Place);
@@ -158,10 +178,10 @@ impl Parts {
         right: Frac,
         mark: u32,
     ) -> Result<(), BuildError>
-        requires { self.old.row_total ≡ rows_so_far (building_of self.old) }
+        requires { IsCounted self.old.totals (building_of self.old) }
         ensures acts { Acts BuildError.Memory (building_of self.old) (row_outcome terms.now rel right mark (building_of self.old)) result
             (building_of self.new) }
-        ensures counted { self.new.row_total ≡ rows_so_far (building_of self.new) }
+        ensures counted { IsCounted self.new.totals (building_of self.new) }
     {
         if self.opened.is_some() {
             return Err(BuildError::Place);
@@ -170,14 +190,48 @@ impl Parts {
             Ok(row) => row,
             Err(error) => return Err(error),
         };
-        if self.row_total >= MOST_ROWS {
+        if self.totals.rows >= MOST_ROWS {
             return Err(BuildError::Limit);
         }
         if self.inner.rows.reserve(1).is_err() {
             return Err(BuildError::Memory);
         }
         self.inner.rows.push_reserved((row, mark));
-        self.row_total += 1;
+        self.totals.rows += 1;
+        Ok(())
+    }
+
+    /// Adds a proposition to the innermost open block.
+    pub fn prop(&mut self, alloc: Global, prop: &Prop, mark: u32) -> Result<(), BuildError>
+        requires { IsCounted self.old.totals (building_of self.old) }
+        ensures acts { Acts BuildError.Memory (building_of self.old) (prop_outcome (prop_tree prop.now) mark (building_of self.old)) result
+            (building_of self.new) }
+        ensures counted { IsCounted self.new.totals (building_of self.new) }
+    {
+        if self.opened.is_some() {
+            return Err(BuildError::Place);
+        }
+        if !has_ids_below(prop, self.booleans.len()) {
+            return Err(BuildError::NameUnknown);
+        }
+        if !has_small_numbers(prop) {
+            return Err(BuildError::Number);
+        }
+        if !is_shallow(prop) {
+            return Err(BuildError::Nesting);
+        }
+        let nodes = self.totals.nodes.saturating_add(node_count(prop));
+        if !has_fair_lists(prop) || nodes > MOST_NODES {
+            return Err(BuildError::Limit);
+        }
+        let Ok(copied) = copy(alloc, prop) else {
+            return Err(BuildError::Memory);
+        };
+        if self.inner.props.reserve(1).is_err() {
+            return Err(BuildError::Memory);
+        }
+        self.inner.props.push_reserved((copied, mark));
+        self.totals.nodes = nodes;
         Ok(())
     }
 
@@ -185,7 +239,7 @@ impl Parts {
     pub fn boolean(&mut self, alloc: Global, name: &str, mark: u32) -> Result<u32, BuildError>
         ensures acts { Acts BuildError.Memory (building_of self.old) (boolean_outcome name.now mark (building_of self.old)) result
             (building_of self.new) }
-        ensures counted { self.new.row_total ≡ self.old.row_total }
+        ensures counted { self.new.totals ≡ self.old.totals }
     {
         if self.opened.is_some() || !self.outer.is_empty() || !self.inner.disjunctions.is_empty() {
             return Err(BuildError::Place);
@@ -215,7 +269,7 @@ impl Parts {
         ensures acts { Acts BuildError.Memory (building_of self.old) (goal_outcome sense terms.now constant mark (building_of self.old)) result
             (building_of self.new) }
         ensures lowest { OnOk result (AreLowest terms.now constant) }
-        ensures counted { self.new.row_total ≡ self.old.row_total }
+        ensures counted { self.new.totals ≡ self.old.totals }
     {
         if !self.is_at_root() || self.goal.is_some() {
             return Err(BuildError::Place);
@@ -244,7 +298,7 @@ impl Parts {
     ) -> Result<(), BuildError>
         ensures acts { Acts BuildError.Memory (building_of self.old) (open_disjunction_outcome mode mark (building_of self.old)) result
             (building_of self.new) }
-        ensures counted { self.new.row_total ≡ self.old.row_total }
+        ensures counted { self.new.totals ≡ self.old.totals }
     {
         if self.opened.is_some() {
             return Err(BuildError::Place);
@@ -261,7 +315,7 @@ impl Parts {
     pub fn open_disjunct(&mut self, alloc: Global, name: &str, mark: u32) -> Result<u32, BuildError>
         ensures acts { Acts BuildError.Memory (building_of self.old) (open_disjunct_outcome name.now mark (building_of self.old)) result
             (building_of self.new) }
-        ensures counted { self.new.row_total ≡ self.old.row_total }
+        ensures counted { self.new.totals ≡ self.old.totals }
     {
         if self.opened.is_none() {
             return Err(BuildError::Place);
@@ -286,6 +340,7 @@ impl Parts {
             indicator: number as u32,
             mark,
             rows: Vec::new(alloc),
+            props: Vec::new(alloc),
             disjunctions: Vec::new(alloc),
         };
         if let Some(opened) = self.opened.take() {
@@ -298,7 +353,7 @@ impl Parts {
     /// Closes the innermost that is open.
     pub fn close(&mut self) -> Result<(), BuildError>
         ensures acts { Acts BuildError.Memory (building_of self.old) (close_outcome (building_of self.old)) result (building_of self.new) }
-        ensures counted { self.new.row_total ≡ self.old.row_total }
+        ensures counted { self.new.totals ≡ self.old.totals }
     {
         if self.opened.is_some() {
             self.close_disjunction()
@@ -311,7 +366,7 @@ impl Parts {
     fn close_disjunction(&mut self) -> Result<(), BuildError>
         requires { IsSome self.old.opened }
         ensures acts { Acts BuildError.Memory (building_of self.old) (close_outcome (building_of self.old)) result (building_of self.new) }
-        ensures counted { self.new.row_total ≡ self.old.row_total }
+        ensures counted { self.new.totals ≡ self.old.totals }
     {
         if self.inner.disjunctions.reserve(1).is_err() {
             return Err(BuildError::Memory);
@@ -335,7 +390,7 @@ impl Parts {
     fn close_disjunct(&mut self) -> Result<(), BuildError>
         requires { IsNone self.old.opened }
         ensures acts { Acts BuildError.Memory (building_of self.old) (close_outcome (building_of self.old)) result (building_of self.new) }
-        ensures counted { self.new.row_total ≡ self.old.row_total }
+        ensures counted { self.new.totals ≡ self.old.totals }
     {
         match self.outer.pop() {
             None => Err(BuildError::Place),
@@ -378,7 +433,7 @@ impl Parts {
             inner,
             opened: _,
             outer: _,
-            row_total: _,
+            totals: _,
         } = self;
         let root = inner.into_block();
         let goal = goal_or_none(alloc, goal);
@@ -400,9 +455,14 @@ impl Level {
             indicator: _,
             mark: _,
             rows,
+            props,
             disjunctions,
         } = self;
-        Block { rows, disjunctions }
+        Block {
+            rows,
+            props,
+            disjunctions,
+        }
     }
 
     // The disjunct of what it holds.

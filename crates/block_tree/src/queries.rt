@@ -53,4 +53,15 @@ impl ModelBuilder {
             None => None,
         }
     }
+
+    /// The id of the Boolean with this name.
+    pub fn boolean_id(&self, name: &str) -> Option<u32>
+        ensures id { result ≡ position (bytes_eq name.now) (map (λ b. b.0) (stands_for self.now).booleans) }
+        ensures within { IfSome result (λ id. id < length (stands_for self.now).booleans) }
+    {
+        match self.find_boolean(name) {
+            Some(index) => Some(index as u32),
+            None => None,
+        }
+    }
 }

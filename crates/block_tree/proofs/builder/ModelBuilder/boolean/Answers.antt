@@ -1,21 +1,19 @@
-use Rattle.std.proofs.Common.{◌≡◌, refl, sym, ◌∙◌}
 use Rattle.block_tree.specs.declared.errors.BuildError.TheVariants.{Memory}
 use Rattle.block_tree.specs.Builders.{building_of}
-use Rattle.block_tree.specs.Building.{rows_so_far}
 use Rattle.block_tree.specs.Nesting.{boolean_outcome}
 use Rattle.block_tree.specs.Sound.{IsWhole}
-use Rattle.block_tree.proofs.Keeping.{acts_keep}
-use Rattle.block_tree.proofs.Nested.{boolean_keeps_whole, boolean_keeps_rows}
+use Rattle.block_tree.proofs.Keeping.{acts_keep, counted_keeps}
+use Rattle.block_tree.proofs.Nested.{boolean_keeps_whole, boolean_keeps_counted}
 use Rattle.block_tree.proofs.builder.ModelBuilder.boolean.Goals as goal
 
 pub invariant_of-self : goal.invariant_of-self
 invariant_of-self c =
     let b = building_of c.args.self.now.parts in
+    let t = c.args.self.now.parts.totals in
     let o = boolean_outcome c.args.name.now c.args.mark b in
     record {
       whole = acts_keep IsWhole Memory b o c.boolean.result (building_of c.boolean.new.self) c.boolean.ensures.acts c.args.self.now.whole
           (boolean_keeps_whole c.args.name.now c.args.mark b c.args.self.now.whole);
-      counted = c.boolean.ensures.counted ∙ c.args.self.now.counted
-          ∙ sym (acts_keep (λ s. rows_so_far s ≡ rows_so_far b) Memory b o c.boolean.result (building_of c.boolean.new.self) c.boolean.ensures.acts refl
-          (boolean_keeps_rows c.args.name.now c.args.mark b));
+      counted = counted_keeps t c.boolean.new.self.totals Memory b o c.boolean.result (building_of c.boolean.new.self) c.boolean.ensures.acts c.boolean.ensures.counted c.args.self.now.counted
+          (boolean_keeps_counted t c.args.name.now c.args.mark b c.args.self.now.counted);
     }

@@ -1,21 +1,19 @@
-use Rattle.std.proofs.Common.{◌≡◌, refl, sym, ◌∙◌}
 use Rattle.block_tree.specs.declared.errors.BuildError.TheVariants.{Memory}
 use Rattle.block_tree.specs.Builders.{building_of}
-use Rattle.block_tree.specs.Building.{rows_so_far}
 use Rattle.block_tree.specs.Nesting.{close_outcome}
 use Rattle.block_tree.specs.Sound.{IsWhole}
-use Rattle.block_tree.proofs.Keeping.{acts_keep}
-use Rattle.block_tree.proofs.Nested.{close_keeps_whole, close_keeps_rows}
+use Rattle.block_tree.proofs.Keeping.{acts_keep, counted_keeps}
+use Rattle.block_tree.proofs.Nested.{close_keeps_whole, close_keeps_counted}
 use Rattle.block_tree.proofs.builder.ModelBuilder.close.Goals as goal
 
 pub invariant_of-self : goal.invariant_of-self
 invariant_of-self c =
     let b = building_of c.args.self.now.parts in
+    let t = c.args.self.now.parts.totals in
     let o = close_outcome b in
     record {
       whole = acts_keep IsWhole Memory b o c.close.result (building_of c.close.new.self) c.close.ensures.acts c.args.self.now.whole
           (close_keeps_whole b c.args.self.now.whole);
-      counted = c.close.ensures.counted ∙ c.args.self.now.counted
-          ∙ sym (acts_keep (λ s. rows_so_far s ≡ rows_so_far b) Memory b o c.close.result (building_of c.close.new.self) c.close.ensures.acts refl
-          (close_keeps_rows b));
+      counted = counted_keeps t c.close.new.self.totals Memory b o c.close.result (building_of c.close.new.self) c.close.ensures.acts c.close.ensures.counted c.args.self.now.counted
+          (close_keeps_counted t b c.args.self.now.counted);
     }

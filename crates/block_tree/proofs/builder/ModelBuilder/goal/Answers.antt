@@ -1,20 +1,18 @@
-use Rattle.std.proofs.Common.{◌≡◌, refl, sym, ◌∙◌}
 use Rattle.block_tree.specs.declared.errors.BuildError.TheVariants.{Memory}
 use Rattle.block_tree.specs.Builders.{building_of}
-use Rattle.block_tree.specs.Building.{rows_so_far}
 use Rattle.block_tree.specs.Nesting.{goal_outcome}
-use Rattle.block_tree.proofs.Keeping.{acts_keep}
-use Rattle.block_tree.proofs.Nested.{goal_keeps_whole, goal_keeps_rows}
+use Rattle.block_tree.proofs.Keeping.{counted_keeps}
+use Rattle.block_tree.proofs.Nested.{goal_keeps_whole, goal_keeps_counted}
 use Rattle.block_tree.proofs.builder.ModelBuilder.goal.Goals as goal
 
 pub invariant_of-self : goal.invariant_of-self
 invariant_of-self c =
     let b = building_of c.args.self.now.parts in
+    let t = c.args.self.now.parts.totals in
     let o = goal_outcome c.args.sense c.args.terms.now c.args.constant c.args.mark b in
     record {
       whole = goal_keeps_whole c.args.sense c.args.terms.now c.args.constant c.args.mark b (building_of c.goal.new.self) c.goal.result
           c.goal.ensures.acts c.goal.ensures.lowest c.args.self.now.whole;
-      counted = c.goal.ensures.counted ∙ c.args.self.now.counted
-          ∙ sym (acts_keep (λ s. rows_so_far s ≡ rows_so_far b) Memory b o c.goal.result (building_of c.goal.new.self) c.goal.ensures.acts refl
-          (goal_keeps_rows c.args.sense c.args.terms.now c.args.constant c.args.mark b));
+      counted = counted_keeps t c.goal.new.self.totals Memory b o c.goal.result (building_of c.goal.new.self) c.goal.ensures.acts c.goal.ensures.counted c.args.self.now.counted
+          (goal_keeps_counted t c.args.sense c.args.terms.now c.args.constant c.args.mark b c.args.self.now.counted);
     }
