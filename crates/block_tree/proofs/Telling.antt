@@ -3,11 +3,13 @@ use Rattle.std.proofs.Common.{◌≡◌, ℕ, ◌+◌, ℤ, Bool, true, false, n
 use Rattle.std.proofs.lemmas.List.{map-append}
 use Rattle.lp_rows.specs.Holding.{holds_at, row_fits}
 use Rattle.lp_rows.specs.Rows.{RowValue}
+use Rattle.propositions.specs.Tree.{PropTree}
+use Rattle.propositions.specs.Truth.{truth_of}
 use Rattle.block_tree.specs.declared.errors.Verdict.{Verdict}
 use Rattle.block_tree.specs.declared.errors.Verdict.TheVariants.{Holds, FailsAt}
 use Rattle.block_tree.specs.declared.errors.SumWide.{SumWide}
-use Rattle.block_tree.specs.Satisfied.{PointOf, is_above, is_below, is_of_kind, takes, vars_take, rows_hold, true_count, mode_allows, is_off, are_disjunctions_off, are_disjuncts_off, is_satisfied, are_disjunctions_satisfied, are_disjuncts_satisfied, is_model_point}
-use Rattle.block_tree.specs.Tests.{Test, passes, fails, is_wide, verdict_of, test_of, sized_test, end_fits, tests_of_var, tests_of_vars, test_of_row, test_of_off, tests_of_block, tests_of_disjunctions, tests_of_disjuncts, tests_of, Tells}
+use Rattle.block_tree.specs.Satisfied.{PointOf, is_above, is_below, is_of_kind, takes, vars_take, rows_hold, props_hold, true_count, mode_allows, is_off, are_disjunctions_off, are_disjuncts_off, is_satisfied, are_disjunctions_satisfied, are_disjuncts_satisfied, is_model_point}
+use Rattle.block_tree.specs.Tests.{Test, passes, fails, is_wide, verdict_of, test_of, sized_test, end_fits, tests_of_var, tests_of_vars, test_of_row, test_of_prop, test_of_off, tests_of_block, tests_of_disjunctions, tests_of_disjuncts, tests_of, Tells}
 use Rattle.block_tree.specs.Tree.{BlockTree, block, Disjunctions, no_disjunctions, disjunction, Disjuncts, no_disjuncts, disjunct, below, below_disjunctions, below_disjuncts}
 use Rattle.block_tree.specs.Values.{ModelTree}
 use Rattle.block_tree.specs.Variables.{VarValue}
@@ -52,6 +54,10 @@ rows_tell : (rows : List (RowValue × ℕ)) (p : PointOf) → Tells (verdict_of 
 rows_tell [] p = refl
 rows_tell (r ∷ rs) p = sized_tells (row_fits r.0 p.over p.nums) (holds_at r.0 p.over p.nums) r.1 (map (test_of_row p) rs) (rows_hold rs p) (rows_tell rs p)
 
+props_tell : (props : List (PropTree × ℕ)) (truths : ℕ → Bool) → Tells (verdict_of (map (test_of_prop truths) props)) (props_hold props truths)
+props_tell [] truths = refl
+props_tell (q ∷ qs) truths = test_tells (truth_of q.0 truths) q.1 (map (test_of_prop truths) qs) (props_hold qs truths) (props_tell qs truths)
+
 off_tells : (on : Bool) (mark : ℕ) (ts : List Test) (y : Bool) → Tells (verdict_of ts) y → Tells (verdict_of ((if on then fails mark else passes) ∷ ts)) (not on && y)
 off_tells true mark ts y q = refl
 off_tells false mark ts y q = q
@@ -83,8 +89,11 @@ chosen false xs ys x y p q = q
 mutual
   block_tells : (b : BlockTree) (p : PointOf) → Tells (verdict_of (tests_of_block b p)) (is_satisfied b p)
   block_tells (block items ds) p =
-      appended (map (test_of_row p) items.rows) (tests_of_disjunctions ds p) (rows_hold items.rows p) (are_disjunctions_satisfied ds p)
-      (rows_tell items.rows p) (disjunctions_tell ds p)
+      appended (map (test_of_row p) items.rows) (map (test_of_prop p.truths) items.props ++ tests_of_disjunctions ds p)
+      (rows_hold items.rows p) (props_hold items.props p.truths && are_disjunctions_satisfied ds p)
+      (rows_tell items.rows p)
+      (appended (map (test_of_prop p.truths) items.props) (tests_of_disjunctions ds p) (props_hold items.props p.truths) (are_disjunctions_satisfied ds p)
+      (props_tell items.props p.truths) (disjunctions_tell ds p))
 
   disjunctions_tell : (ds : Disjunctions) (p : PointOf) → Tells (verdict_of (tests_of_disjunctions ds p)) (are_disjunctions_satisfied ds p)
   disjunctions_tell no_disjunctions p = refl

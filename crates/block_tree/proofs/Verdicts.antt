@@ -1,16 +1,21 @@
 -- The verdict of tests that stand one after another.
-use Rattle.std.proofs.Common.{◌≡◌, ℕ, suc, ◌+◌, ◌<◌, ℤ, Bool, true, false, List, [], ◌∷◌, ◌++◌, map, length, drop, get_or, Result, Ok, Err, refl, ap, sym, ◌∙◌, add-one, drop-cons, if◌then◌else◌}
+use Rattle.std.proofs.Common.{◌≡◌, ℕ, suc, ◌+◌, ◌<◌, ℤ, Bool, true, false, List, [], ◌∷◌, ◌++◌, not, ◌&&◌, map, length, drop, get_or, Result, Ok, Err, refl, ap, sym, ◌∙◌, add-one, drop-cons, if◌then◌else◌}
 use Rattle.std.proofs.lemmas.List.{map-append}
+use Rattle.propositions.specs.declared.tree.Prop.{Prop}
+use Rattle.propositions.specs.Truth.{truth_of}
+use Rattle.propositions.specs.View.{prop_tree}
 use Rattle.block_tree.specs.declared.errors.Verdict.{Verdict}
 use Rattle.block_tree.specs.declared.errors.Verdict.TheVariants.{Holds, FailsAt}
 use Rattle.block_tree.specs.declared.errors.SumWide.{SumWide}
 use Rattle.block_tree.specs.declared.tree.Disjunct.{Disjunct}
 use Rattle.block_tree.specs.declared.tree.Disjunction.{Disjunction}
 use Rattle.block_tree.specs.Satisfied.{PointOf}
+use Rattle.block_tree.specs.Props.{is_prop_sound}
+use Rattle.block_tree.specs.Sound.{are_props_sound}
 use Rattle.block_tree.specs.Tree.{below, below_disjunctions, below_disjuncts}
-use Rattle.block_tree.specs.Tests.{Test, passes, fails, is_wide, verdict_of, tests_of_var, tests_of_vars, test_of_off, tests_of_disjunctions, tests_of_disjuncts, tests_of_disjunction, tests_of_disjunct}
+use Rattle.block_tree.specs.Tests.{Test, passes, fails, is_wide, verdict_of, tests_of_var, tests_of_vars, test_of_prop, test_of_off, tests_of_disjunctions, tests_of_disjuncts, tests_of_disjunction, tests_of_disjunct}
 use Rattle.block_tree.specs.Variables.{VarValue}
-use Rattle.block_tree.specs.View.{disjunction_of, disjunct_of, disjunctions_of, disjuncts_of}
+use Rattle.block_tree.specs.View.{disjunction_of, disjunct_of, disjunctions_of, disjuncts_of, props_of}
 
 -- the first verdict where it decides, else the second
 abbrev pub first_of : Result Verdict SumWide → Result Verdict SumWide → Result Verdict SumWide
@@ -40,6 +45,25 @@ pub vars_at : (vs : List VarValue) (i : ℕ) (v : VarValue) (nums : ℕ → ℤ)
     ≡ first_of (verdict_of (tests_of_var v (nums i) over)) (verdict_of (tests_of_vars (drop (i + 1) vs) (i + 1) nums over))
 vars_at vs i v nums over h e =
     rw (drop-cons vs i v, ← e, add-one) (verdict-append (tests_of_var v (nums i) over) (tests_of_vars (drop (suc i) vs) (suc i) nums over))
+
+and_second : (a b : Bool) → (a && b) ≡ true → b ≡ true
+and_second true b h = h
+and_second false b h = cc
+
+pub not_refused : (a : Bool) → not a ≡ false → a ≡ true
+not_refused true h = refl
+not_refused false h = sym h
+
+-- a true proposition decides nothing
+pub props_at : (qs : List (Prop × ℕ)) (i : ℕ) (q : Prop × ℕ) (truths : ℕ → Bool) → i < length qs → q ≡ get_or qs i q → truth_of (prop_tree q.0) truths ≡ true
+    → verdict_of (map (test_of_prop truths) (props_of (drop (i + 1) qs))) ≡ verdict_of (map (test_of_prop truths) (props_of (drop i qs)))
+props_at qs i q truths h e t = rw (add-one, drop-cons qs i q, ← e, t) refl
+
+pub props_sound_at : (qs : List (Prop × ℕ)) (i : ℕ) (q : Prop × ℕ) (m : ℕ) → i < length qs → q ≡ get_or qs i q
+    → are_props_sound m (props_of (drop i qs)) ≡ true → are_props_sound m (props_of (drop (i + 1) qs)) ≡ true
+props_sound_at qs i q m h e s =
+    let s1 = rw (drop-cons qs i q, ← e) at s in
+    rw add-one (and_second (is_prop_sound m (prop_tree q.0)) (are_props_sound m (props_of (drop (suc i) qs))) s1)
 
 pub disjunctions_at : (ds : List Disjunction) (i : ℕ) (d : Disjunction) (p : PointOf) → i < length ds → d ≡ get_or ds i d
     → verdict_of (tests_of_disjunctions (disjunctions_of (drop i ds)) p)

@@ -5,6 +5,7 @@ pub mod Variables
 pub mod Names
 pub mod Numbers
 pub mod Items
+pub mod Picking
 pub mod Props
 pub mod Nesting
 pub mod Occurs

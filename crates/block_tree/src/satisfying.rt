@@ -30,13 +30,20 @@ ghost use Rattle.block_tree.specs.Satisfied.{
   mode_allows as allows,
   is_model_point,
 };
-ghost use Rattle.block_tree.specs.Sound.{are_rows_below, is_block_sound, are_disjunctions_sound, are_disjuncts_sound};
+ghost use Rattle.block_tree.specs.Sound.{
+  are_rows_below,
+  are_props_sound,
+  is_block_sound,
+  are_disjunctions_sound,
+  are_disjuncts_sound,
+};
 ghost use Rattle.block_tree.specs.Tests.{
   verdict_of,
   end_fits,
   tests_of_var,
   tests_of_vars,
   test_of_row,
+  test_of_prop,
   test_of_off,
   tests_of_block,
   tests_of_disjunctions,
@@ -54,6 +61,7 @@ ghost use Rattle.block_tree.specs.View.{
   disjunct_of,
   disjunctions_of,
   disjuncts_of,
+  props_of,
 };
 
 use crate::bounds::Bound;
@@ -63,6 +71,7 @@ use crate::tree::{Block, Disjunct, Disjunction, Mode};
 use fractions::{Frac, Wide};
 use gdp_io::Name;
 use lp_rows::{Kind, Point, Row, row_holds};
+use propositions::{Prop, truth};
 
 /// Whether the point with these truth values satisfies the model.
 ///
@@ -218,6 +227,19 @@ fn rows_verdict(rows: &[(Row, u32)], at: &Point, truths: &[bool]) -> Result<Verd
     Ok(Verdict::Holds)
 }
 
+// The verdict of the propositions' tests.
+fn props_verdict(props: &[(Prop, u32)], truths: &[bool]) -> Verdict
+    requires { are_props_sound (length truths.now) (props_of props.now) ≡ true }
+    ensures { Ok result ≡ verdict_of (map (test_of_prop (λ k. slice_index_or truths.now k false)) (props_of props.now)) }
+{
+    for prop in props {
+        if !truth(&prop.0, truths) {
+            return Verdict::FailsAt(prop.1);
+        }
+    }
+    Verdict::Holds
+}
+
 // Whether the Boolean of this number is true.
 fn is_on(truths: &[bool], indicator: u32) -> bool
     ensures { result ≡ slice_index_or truths.now indicator false }
@@ -258,9 +280,13 @@ fn block_verdict(block: &Block, at: &Point, truths: &[bool]) -> Result<Verdict, 
     ensures { result ≡ verdict_of (tests_of_block (block_of block.now) (point_of at.now truths.now)) }
 {
     match rows_verdict(block.rows(), at, truths) {
-        Ok(Verdict::Holds) => disjunctions_verdict(block.disjunctions(), at, truths),
-        Ok(Verdict::FailsAt(mark)) => Ok(Verdict::FailsAt(mark)),
-        Err(error) => Err(error),
+        Ok(Verdict::Holds) => {}
+        Ok(Verdict::FailsAt(mark)) => return Ok(Verdict::FailsAt(mark)),
+        Err(error) => return Err(error),
+    }
+    match props_verdict(block.props(), truths) {
+        Verdict::Holds => disjunctions_verdict(block.disjunctions(), at, truths),
+        Verdict::FailsAt(mark) => Ok(Verdict::FailsAt(mark)),
     }
 }
 

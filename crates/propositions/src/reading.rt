@@ -155,8 +155,8 @@ fn is_open(reading: Tri) -> bool
     matches!(reading, Tri::Open)
 }
 
-// Whether at least so many are true, where so many are Yes and so many Open.
-fn at_least_of(number: usize, yes: usize, undecided: usize) -> Tri
+/// Whether at least so many are true, where so many are Yes and so many Open.
+pub fn at_least_of(number: usize, yes: usize, undecided: usize) -> Tri
     requires { yes + undecided < 2 ^ 63 }
     ensures { result ≡ tri_at_least number yes undecided }
 {
@@ -177,8 +177,8 @@ fn at_most_of(number: u32, yes: usize, undecided: usize) -> Tri
     tri_not(at_least_of(number as usize + 1, yes, undecided))
 }
 
-// Whether exactly so many are: at least and at most so many.
-fn exactly_of(number: u32, yes: usize, undecided: usize) -> Tri
+/// Whether exactly so many are: at least and at most so many.
+pub fn exactly_of(number: u32, yes: usize, undecided: usize) -> Tri
     requires { yes + undecided < 2 ^ 63 }
     ensures { result ≡ tri_exactly number yes undecided }
 {
