@@ -5,10 +5,12 @@ use Rattle.std.specs.Option.{ForSome}
 use Rattle.fractions.specs.Memory.{refuse_if}
 use Rattle.block_tree.specs.declared.errors.BuildError.TheVariants.{Missing, Unclosed}
 use Rattle.block_tree.specs.Building.{BuildingValue, new_building, is_empty, is_at_root, refusal_of_finish, built_model, goal_of}
-use Rattle.block_tree.specs.Sound.{is_goal_sound, is_given_sound, AreEndsLowest, IsScaleLeast, IsSound, IsWhole}
+use Rattle.block_tree.specs.Sound.{are_rows_below, are_props_sound, are_disjunctions_sound, is_goal_sound, is_given_sound, AreEndsLowest, IsScaleLeast, IsSound, IsWhole}
 use Rattle.block_tree.specs.Values.{GoalValue}
-use Rattle.block_tree.proofs.Keeping.{refuses_not, not_false}
-use Rattle.block_tree.proofs.Places.{nothing_nested, root_shallow, root_indicators}
+use Rattle.block_tree.specs.View.{disjunctions}
+use Rattle.block_tree.proofs.Earlier.{sound_names}
+use Rattle.block_tree.proofs.Keeping.{block_parts, refuses_not, not_false}
+use Rattle.block_tree.proofs.Places.{nothing_nested, root_shallow, root_indicators, root_earlier}
 use Rattle.block_tree.proofs.Scales.{none_least}
 
 none_given : (g : GoalValue) → None ≡ Some g → ⊥
@@ -44,6 +46,7 @@ pub built_is_sound : (b : BuildingValue) → IsWhole b → refusal_of_finish b �
 built_is_sound b w h =
     let p = refuses_not (not (is_at_root b)) Unclosed (refuse_if (is_empty b.vars) Missing None) h in
     let q = refuses_not (is_empty b.vars) Missing None p.1 in
+    let parts = block_parts (are_rows_below (length b.vars) b.inner.rows) (are_props_sound (length b.booleans) b.inner.props) (are_disjunctions_sound (length b.vars) (length b.booleans) (disjunctions b.inner.closed)) w.inner in
     record {
       some_variable = q.0;
       few_variables = w.few_variables;
@@ -58,4 +61,5 @@ built_is_sound b w h =
       root = w.inner;
       shallow = root_shallow (length b.booleans) b (not_false (is_at_root b) p.0) w.nested;
       indicators = root_indicators (length b.booleans) b (not_false (is_at_root b) p.0) w.nested;
+      earlier = root_earlier (length b.booleans) b (sound_names (length b.booleans) b.inner.props parts.1) w.nested;
     }

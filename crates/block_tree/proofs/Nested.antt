@@ -26,6 +26,7 @@ use Rattle.block_tree.specs.Tree.{BlockTree, block, Disjunctions, no_disjunction
 use Rattle.block_tree.specs.Values.{GoalValue}
 use Rattle.block_tree.specs.Variables.{BooleanValue}
 use Rattle.block_tree.specs.View.{DisjunctTree, DisjunctionTree, disjuncts, disjunctions}
+use Rattle.block_tree.proofs.Earlier.{sound_names}
 use Rattle.block_tree.proofs.Keeping.{block_parts, block_whole, accepted_keeps, unless_keeps, refuses_not, both, and_true, neither, not_false, below_limit, names_middle, has_append, ids_sorted, ids_scaled, open_more, opened_more, placed_more, around_more, around_parts, around_whole, disjuncts_more, given_more}
 use Rattle.block_tree.proofs.Multiples.{ascends_scaled}
 use Rattle.block_tree.proofs.Places.{boolean_nested, disjunction_nested, disjunct_nested, closed_disjunction_nested, closed_disjunct_nested}
@@ -380,6 +381,7 @@ close_disjunct_whole b (o ∷ os) e f w =
     let nodes : nodes_in_opened b.opened ≡ 0 = ap nodes_in_opened e in
     let outside : nodes_around b.outer ≡ nodes_in_open o.0 + node_total_within (disjuncts o.1.closed) + nodes_around os = ap nodes_around f in
     let weight = node_total_within-push o.1.closed (closed_disjunct b.inner) in
+    let x = block_parts (are_rows_below n b.inner.rows) (are_props_sound m b.inner.props) (are_disjunctions_sound n m (disjunctions b.inner.closed)) w.inner in
     record {
       few_variables = w.few_variables;
       few_booleans = w.few_booleans;
@@ -389,7 +391,7 @@ close_disjunct_whole b (o ∷ os) e f w =
       bounds = w.bounds;
       ends = w.ends;
       scale = w.scale;
-      nested = closed_disjunct_nested m b.inner o os (subst (λ y. IsNested m b.inner None y) f (subst (λ y. IsNested m b.inner y b.outer) e w.nested));
+      nested = closed_disjunct_nested m b.inner o os (sound_names m b.inner.props x.1) (subst (λ y. IsNested m b.inner None y) f (subst (λ y. IsNested m b.inner y b.outer) e w.nested));
       goal = w.goal;
       inner = p.0;
       opened = disjuncts_sound_push n m o.1.closed (closed_disjunct b.inner) p.1 i w.inner;

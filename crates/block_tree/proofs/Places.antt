@@ -2,10 +2,12 @@
 use Rattle.std.proofs.Common.{◌≡◌, ℕ, suc, ◌+◌, ◌≤◌, ◌<◌, true, false, ◌&&◌, List, [], ◌∷◌, ◌++◌, length, Option, Some, None, refl, ap, sym, ◌∙◌, subst, arith, nat_lt, nat_le, ◌==◌, is_none, length-append, append-nil, append_assoc}
 use Rattle.std.proofs.lemmas.Bool.Decides.{nat_tests}
 use Rattle.block_tree.specs.Building.{OpenBlock, OpenDisjunction, BuildingValue, empty_block, is_empty, is_at_root, closed_block}
+use Rattle.block_tree.specs.Earlier.{name_only_first, names_earlier, disjunctions_name_earlier, disjuncts_name_earlier}
 use Rattle.block_tree.specs.Nesting.{closed_disjunct, closed_disjunction}
-use Rattle.block_tree.specs.Sound.{is_shallow, are_disjunctions_shallow, are_disjuncts_shallow, are_around_shallow, are_last_of, head_within, heads_in, heads_in_opened, heads_around, IsNested}
+use Rattle.block_tree.specs.Sound.{is_shallow, are_disjunctions_shallow, are_disjuncts_shallow, are_around_shallow, are_around_earlier, are_last_of, head_within, heads_in, heads_in_opened, heads_around, IsNested}
 use Rattle.block_tree.specs.Tree.{DisjunctHead, disjunction, disjunct, below, below_disjunctions, below_disjuncts}
 use Rattle.block_tree.specs.View.{DisjunctTree, DisjunctionTree, disjuncts, disjunctions}
+use Rattle.block_tree.proofs.Earlier.{earlier-pushed, within_earlier-pushed, ends_at, block_earlier}
 use Rattle.block_tree.proofs.Keeping.{both, and_true}
 
 -- lists that are empty
@@ -75,6 +77,9 @@ nothing_nested m inner e = record {
   shallow_opened = refl;
   shallow_around = refl;
   indicators = ap (λ ds. are_last_of m (below_disjunctions (disjunctions ds) ++ [])) e;
+  earlier = ap (λ ds. disjunctions_name_earlier (disjunctions ds)) e;
+  earlier_opened = refl;
+  earlier_around = refl;
 }
 
 -- a Boolean is declared before the first disjunction
@@ -96,6 +101,9 @@ disjunction_nested m inner d outer e n = record {
   shallow_opened = ap (λ js. are_disjuncts_shallow (length outer) (disjuncts js)) e;
   shallow_around = n.shallow_around;
   indicators = ap (λ js. are_last_of m (heads_around outer ++ (heads_in inner outer ++ below_disjuncts (disjuncts js)))) e ∙ n.indicators;
+  earlier = n.earlier;
+  earlier_opened = ap (λ js. disjuncts_name_earlier (disjuncts js)) e;
+  earlier_around = n.earlier_around;
 }
 
 -- a disjunct is opened: its indicator is the next Boolean
@@ -113,6 +121,11 @@ disjunct_nested m mark inner d outer few n =
           and_true (are_disjunctions_shallow (length outer) (disjunctions inner.closed) && are_disjuncts_shallow (length outer) (disjuncts d.closed)) (are_around_shallow outer)
           (and_true (are_disjunctions_shallow (length outer) (disjunctions inner.closed)) (are_disjuncts_shallow (length outer) (disjuncts d.closed)) n.shallow n.shallow_opened) n.shallow_around;
       indicators = last_pushed m heads head refl n.indicators;
+      earlier = refl;
+      earlier_opened = refl;
+      earlier_around =
+          and_true (disjunctions_name_earlier (disjunctions inner.closed)) (disjuncts_name_earlier (disjuncts d.closed) && are_around_earlier outer) n.earlier
+          (and_true (disjuncts_name_earlier (disjuncts d.closed)) (are_around_earlier outer) n.earlier_opened n.earlier_around);
     }
   where
     at_most : (k : ℕ) → nat_le 8 k ≡ false → suc k ≤ 8
@@ -133,17 +146,22 @@ closed_disjunction_nested m inner d outer n =
       shallow = shallow-pushed (length outer) inner.closed (closed_disjunction d) n.shallow n.shallow_opened;
       shallow_opened = refl;
       shallow_around = n.shallow_around;
+      earlier = earlier-pushed inner.closed (closed_disjunction d) n.earlier n.earlier_opened;
+      earlier_opened = refl;
+      earlier_around = n.earlier_around;
       indicators = ap (λ l. are_last_of m (heads_around outer ++ l)) (append_assoc head (below_disjunctions (disjunctions (inner.closed ++ closed_disjunction d ∷ []))) [] ∙ f) ∙ n.indicators;
     }
 
 -- a disjunct is closed
 
 pub closed_disjunct_nested : (m : ℕ) (inner : OpenBlock) (o : OpenBlock × OpenDisjunction) (os : List (OpenBlock × OpenDisjunction))
-    → IsNested m inner None (o ∷ os) → IsNested m o.0 (Some (record o.1 { closed = o.1.closed ++ closed_disjunct inner ∷ [] })) os
-closed_disjunct_nested m inner o os n =
+    → name_only_first m inner.props ≡ true → IsNested m inner None (o ∷ os) → IsNested m o.0 (Some (record o.1 { closed = o.1.closed ++ closed_disjunct inner ∷ [] })) os
+closed_disjunct_nested m inner o os named n =
     let ds = disjunctions inner.closed in
     let p = both (are_disjunctions_shallow (length os) (disjunctions o.0.closed) && are_disjuncts_shallow (length os) (disjuncts o.1.closed)) (are_around_shallow os) n.shallow_around in
     let q = both (are_disjunctions_shallow (length os) (disjunctions o.0.closed)) (are_disjuncts_shallow (length os) (disjuncts o.1.closed)) p.0 in
+    let e = both (disjunctions_name_earlier (disjunctions o.0.closed)) (disjuncts_name_earlier (disjuncts o.1.closed) && are_around_earlier os) n.earlier_around in
+    let k = both (disjuncts_name_earlier (disjuncts o.1.closed)) (are_around_earlier os) e.1 in
     let a = heads_around os in
     let b = heads_in o.0 os in
     let c = below_disjuncts (disjuncts o.1.closed) in
@@ -158,6 +176,9 @@ closed_disjunct_nested m inner o os n =
       shallow_opened = within_shallow-pushed (length os) o.1.closed (closed_disjunct inner) q.1 (less (length os) n.few_around) n.shallow;
       shallow_around = p.1;
       indicators = ap (λ l. are_last_of m l) f ∙ n.indicators;
+      earlier = e.0;
+      earlier_opened = within_earlier-pushed o.1.closed (closed_disjunct inner) k.0 (block_earlier m _ inner (ends_at m inner (a ++ (b ++ c)) n.indicators) named n.earlier);
+      earlier_around = k.1;
     }
   where
     less : (k : ℕ) → suc k ≤ 8 → nat_lt k 8 ≡ true
@@ -177,3 +198,6 @@ root_indicators m b r n =
     ap (λ l. are_last_of m l) (sym (append-nil ds))
     ∙ ap (λ o. are_last_of m (heads_around [] ++ (heads_in b.inner [] ++ heads_in_opened o))) (sym (none_is b.opened p.0))
     ∙ ap (λ o. are_last_of m (heads_around o ++ (heads_in b.inner o ++ heads_in_opened b.opened))) (sym (empty_is b.outer p.1)) ∙ n.indicators
+
+pub root_earlier : (m : ℕ) (b : BuildingValue) → name_only_first m b.inner.props ≡ true → IsNested m b.inner b.opened b.outer → names_earlier m (closed_block b.inner) ≡ true
+root_earlier m b named n = block_earlier m m b.inner refl named n.earlier
