@@ -92,7 +92,7 @@ impl ModelBuilder {
     /// `Place` where a disjunction is open, `NameUnknown` where an id is out of range, `Number` where the number of a
     /// counting connective passes 1,000, `Nesting` where the proposition is more than 16 deep, an atom being 1 deep,
     /// `Limit` where a connective has more than 200 arguments or a list without any, or where all propositions would
-    /// have more than 5,000 atoms and connectives.
+    /// have more than 5,000 atoms and connectives in all.
     pub fn prop(&mut self, alloc: Global, prop: &Prop, mark: u32) -> Result<(), BuildError>
         ensures { Acts BuildError.Memory (stands_for self.old) (prop_outcome (prop_tree prop.now) mark (stands_for self.old)) result
             (stands_for self.new) }

@@ -14,7 +14,8 @@ pub enum BuildError {
     /// An id is out of range.
     #[error("an unknown name")]
     NameUnknown,
-    /// A coefficient is 0, a number passes 10^15, or a low bound exceeds the high one.
+    /// A coefficient is 0, a number passes 10^15, a low bound exceeds the high one, or the number of a counting
+    /// connective passes 1,000.
     #[error("a number out of range")]
     Number,
     /// A limit on depth would be passed.
@@ -23,7 +24,7 @@ pub enum BuildError {
     /// A block is still open.
     #[error("a block is open")]
     Unclosed,
-    /// A limit on size would be passed, or a name is no name of a model.
+    /// A limit on size would be passed, a name is no name of a model, or a connective has a list without arguments.
     #[error("a limit would be passed")]
     Limit,
     /// A disjunction has no disjunct, or a model no variable.

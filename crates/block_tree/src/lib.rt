@@ -1,5 +1,5 @@
-//! Models: variables, a goal, and a tree of blocks with rows and disjunctions; how one is built, and when a
-//! point satisfies it.
+//! Models: variables, a goal, and a tree of blocks with rows, propositions and disjunctions; how one is built, and
+//! when a point satisfies it.
 //!
 //! A builder stands for what it was given: each call appends exactly what it says, or refuses with the first cause
 //! that holds and changes nothing; and the test of a point answers the first test that fails or is wide.
@@ -38,5 +38,7 @@ pub use satisfying::satisfies;
 pub use tree::{Block, Disjunct, Disjunction, Mode};
 pub use valuing::value;
 
+#[cfg(test)]
+mod prop_tests;
 #[cfg(test)]
 mod tests;

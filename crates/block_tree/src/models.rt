@@ -15,7 +15,8 @@ use std::marker;
 
 /// A model: variables, Booleans, a goal and a root block.
 ///
-/// It has a variable, its names differ, its rows name variables that it has, and it keeps the limits on size.
+/// It has a variable, its names differ, its rows and propositions name variables and Booleans that it has, and it
+/// keeps the limits on size.
 #[derive(Drop)]
 pub struct Model {
     pub(crate) vars: Variables,
