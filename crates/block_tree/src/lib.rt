@@ -40,4 +40,6 @@ pub use tree::{Block, Disjunct, Disjunction, Mode};
 pub use valuing::value;
 
 #[cfg(test)]
+mod item_tests;
+#[cfg(test)]
 mod tests;
