@@ -310,6 +310,9 @@ row_nested m inner rows opened outer n = record {
   shallow_opened = n.shallow_opened;
   shallow_around = n.shallow_around;
   indicators = n.indicators;
+  earlier = n.earlier;
+  earlier_opened = n.earlier_opened;
+  earlier_around = n.earlier_around;
 }
 
 pub row_keeps_whole : (terms : List (ℕ × Fraction)) (rel : Rel) (right : Fraction) (mark : ℕ) (b : BuildingValue) → IsWhole b → IsWhole (row_outcome terms rel right mark b).1

@@ -28,6 +28,9 @@ prop_nested m inner props opened outer n = record {
   shallow_opened = n.shallow_opened;
   shallow_around = n.shallow_around;
   indicators = n.indicators;
+  earlier = n.earlier;
+  earlier_opened = n.earlier_opened;
+  earlier_around = n.earlier_around;
 }
 
 within_limit : (n most : ℕ) → not (nat_le n most) ≡ false → n ≤ most

@@ -1,5 +1,5 @@
--- How the item at a place is found while the tree is walked, and what the walk needs of the propositions.
-use Rattle.std.specs.Prelude.{ℕ, zero, suc, Bool, true, ◌&&◌, List, [], ◌∷◌, map, Result, Ok, Err}
+-- How items are counted and found while the tree is walked, and what the walk needs of the propositions.
+use Rattle.std.specs.Prelude.{ℕ, zero, suc, ◌+◌, Bool, true, ◌&&◌, List, [], ◌∷◌, length, map, Result, Ok, Err}
 use Rattle.std.specs.List.{list_all}
 use Rattle.gdp_tables.specs.declared.tri.Tri.{Tri}
 use Rattle.propositions.specs.Reading.{tri_of}
@@ -33,3 +33,16 @@ abbrev mutual
   pub are_disjuncts_below : ℕ → Disjuncts → Bool
   are_disjuncts_below m no_disjuncts = true
   are_disjuncts_below m (disjunct head b js) = is_block_below m b && are_disjuncts_below m js
+
+-- how many items there are in a block and below it
+abbrev mutual
+  pub item_total : BlockTree → ℕ
+  item_total (block items ds) = length items.props + item_total_below ds
+
+  pub item_total_below : Disjunctions → ℕ
+  item_total_below no_disjunctions = 0
+  item_total_below (disjunction head js ds) = suc (item_total_within js) + item_total_below ds
+
+  pub item_total_within : Disjuncts → ℕ
+  item_total_within no_disjuncts = 0
+  item_total_within (disjunct head b js) = item_total b + item_total_within js

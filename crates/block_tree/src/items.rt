@@ -40,6 +40,9 @@ ghost use Rattle.block_tree.specs.Picking.{
   is_block_below,
   are_disjunctions_below,
   are_disjuncts_below,
+  item_total,
+  item_total_below,
+  item_total_within,
 };
 ghost use Rattle.block_tree.specs.Values.{model_tree};
 ghost use Rattle.block_tree.specs.View.{
@@ -55,6 +58,67 @@ use crate::models::Model;
 use crate::tree::{Block, Disjunct, Disjunction, Mode};
 use gdp_tables::{Tri, tri_and, tri_not, tri_or};
 use propositions::{Prop, at_least_of, exactly_of, tri};
+
+/// How many items the model has.
+pub fn item_count(model: &Model) -> u32
+    ensures { result ≡ item_count_of (model_tree model.now) }
+{
+    let _ = model.vars();
+    count_in_block(model.root())
+}
+
+// How many items there are in the block and below it.
+#[cycle(count)]
+fn count_in_block(block: &Block) -> u32
+    requires { item_total (block_of block.now) < 2 ^ 32 }
+    ensures { result ≡ item_total (block_of block.now) }
+{
+    block.props().len() as u32 + count_in_disjunctions(block.disjunctions())
+}
+
+// How many items the disjunctions and those of their disjuncts are.
+#[cycle(count)]
+fn count_in_disjunctions(disjunctions: &[Disjunction]) -> u32
+    requires { item_total_below (disjunctions_of disjunctions.now) < 2 ^ 32 }
+    ensures { result ≡ item_total_below (disjunctions_of disjunctions.now) }
+{
+    let mut count = 0;
+    for disjunction in disjunctions {
+        count += count_in_disjunction(disjunction);
+    }
+    count
+}
+
+// How many items the disjunction and those of its disjuncts are.
+#[cycle(count)]
+fn count_in_disjunction(disjunction: &Disjunction) -> u32
+    requires { item_total_within (disjunction_of disjunction.now).1 + 1 < 2 ^ 32 }
+    ensures { result ≡ item_total_within (disjunction_of disjunction.now).1 + 1 }
+{
+    count_in_disjuncts(disjunction.disjuncts()) + 1
+}
+
+// How many items there are in the disjuncts' blocks.
+#[cycle(count)]
+fn count_in_disjuncts(disjuncts: &[Disjunct]) -> u32
+    requires { item_total_within (disjuncts_of disjuncts.now) < 2 ^ 32 }
+    ensures { result ≡ item_total_within (disjuncts_of disjuncts.now) }
+{
+    let mut count = 0;
+    for disjunct in disjuncts {
+        count += count_in_disjunct(disjunct);
+    }
+    count
+}
+
+// How many items there are in the disjunct's block.
+#[cycle(count)]
+fn count_in_disjunct(disjunct: &Disjunct) -> u32
+    requires { item_total (disjunct_of disjunct.now).1 < 2 ^ 32 }
+    ensures { result ≡ item_total (disjunct_of disjunct.now).1 }
+{
+    count_in_block(disjunct.block())
+}
 
 /// What is known of the condition of the item with this number, where this is known of the Booleans.
 pub fn item_tri(model: &Model, place: u32, truths: &[Tri]) -> Tri
