@@ -22,6 +22,8 @@ pub mod PointNames
 pub mod PointOnce
 pub mod Printed
 pub mod Printouts
+pub mod PropFusion
+pub mod PropMachine
 pub mod PropsLead
 pub mod Rebuilt
 pub mod Respelled
