@@ -40,7 +40,7 @@ all_weaker test other (x ∷ xs) weaker p = let h = both (test x) (list_all test
 abbrev pub is_printed : ℕ → Bool
 is_printed b = not (b == 10) && (not (b == 13) && not (b == 35))
 
-not_true : (a : Bool) → not a ≡ true → a ≡ false
+pub not_true : (a : Bool) → not a ≡ true → a ≡ false
 not_true true p = absurd (cc p)
 not_true false p = refl
 
@@ -116,16 +116,19 @@ digit_begins_no_name b p = grind (arith, nat_tests)
 begins_continues : (b : ℕ) → begins_name b ≡ true → continues_name b ≡ true
 begins_continues b p = ap (λ x. x || is_digit b || (b == 46)) p
 
--- a word
-pub word_again : (b : ℕ) (bs : List ℕ) → begins_name b ≡ true → list_all continues_name bs ≡ true → Reads (b ∷ bs) (Word (b ∷ bs) ∷ [])
+-- a word before what belongs to it no more
+pub word_stops : (b : ℕ) (bs after : List ℕ) → begins_name b ≡ true → list_all continues_name bs ≡ true → Stops class.Name after → tokens_of (b ∷ bs ++ after) ≡ Word (b ∷ bs) ∷ tokens_of after
 unfolding token_of
-word_again b bs p q after a =
+word_stops b bs after p q s =
     let all : list_all (belongs class.Name) (b ∷ bs) ≡ true = and_true (continues_name b) (list_all continues_name bs) (begins_continues b p) q in
-    let s : Stops class.Name after = apart_stops class.Name after refl a in
     token_before b (bs ++ after) (begins_unblank b p)
     ∙ ap (λ (t : Piece × List ℕ). t.0 ∷ tokens_of t.1) (cond-true (begins_name b) (Word (front class.Name (b ∷ bs ++ after)), rest class.Name (b ∷ bs ++ after)) _ p)
     ∙ ap (λ w. Word w ∷ tokens_of (rest class.Name (b ∷ bs ++ after))) (front_again class.Name (b ∷ bs) after all s)
     ∙ ap (λ l. Word (b ∷ bs) ∷ tokens_of l) (rest_again class.Name (b ∷ bs) after all s)
+
+-- a word
+pub word_again : (b : ℕ) (bs : List ℕ) → begins_name b ≡ true → list_all continues_name bs ≡ true → Reads (b ∷ bs) (Word (b ∷ bs) ∷ [])
+word_again b bs p q after a = word_stops b bs after p q (apart_stops class.Name after refl a)
 
 -- the token that begins with a digit
 digit_token : (b : ℕ) (bs : List ℕ) → is_digit b ≡ true → tokens_of (b ∷ bs)
@@ -152,16 +155,19 @@ whole_numeral digits (m ∷ d ∷ ds) a =
 read_pair : (ds after : List ℕ) (n : Numeral) (l : List ℕ) (pair : Numeral × List ℕ) → pair ≡ (n, l) → Number pair.0 ∷ tokens_of pair.1 ≡ Number n ∷ tokens_of l
 read_pair ds after n l pair e = ap (λ (x : Numeral × List ℕ). Number x.0 ∷ tokens_of x.1) e
 
-pub whole_again : (ds : List ℕ) → AreDigits ds → Reads ds (Number (Whole ds) ∷ [])
-whole_again [] d after a = absurd (omega (arith, d.some))
-whole_again (b ∷ bs) d after a =
+-- digits before what goes on with no number
+pub whole_stops : (ds after : List ℕ) → AreDigits ds → Stops class.Digit after → numeral_of ds after ≡ (Whole ds, after) → tokens_of (ds ++ after) ≡ Number (Whole ds) ∷ tokens_of after
+whole_stops [] after d s e = absurd (omega (arith, d.some))
+whole_stops (b ∷ bs) after d s e =
     let h = both (is_digit b) (list_all is_digit bs) d.all in
-    let s : Stops class.Digit after = apart_stops class.Digit after refl a in
     digit_token b (bs ++ after) h.0
     ∙ ap (λ (x : Numeral × List ℕ). Number x.0 ∷ tokens_of x.1)
     (ap (λ w. numeral_of w (rest class.Digit (b ∷ bs ++ after))) (front_again class.Digit (b ∷ bs) after d.all s)
     ∙ ap (λ l. numeral_of (b ∷ bs) l) (rest_again class.Digit (b ∷ bs) after d.all s)
-    ∙ whole_numeral (b ∷ bs) after a)
+    ∙ e)
+
+pub whole_again : (ds : List ℕ) → AreDigits ds → Reads ds (Number (Whole ds) ∷ [])
+whole_again ds d after a = whole_stops ds after d (apart_stops class.Digit after refl a) (whole_numeral ds after a)
 
 fraction_numeral : (digits ds after : List ℕ) → AreDigits ds → IsApart after → numeral_of digits (47 ∷ ds ++ after) ≡ (Fraction digits ds, after)
 unfolding numeral_of

@@ -22,8 +22,11 @@ pub mod PointNames
 pub mod PointOnce
 pub mod Printed
 pub mod Printouts
+pub mod PropAgain
 pub mod PropFusion
 pub mod PropMachine
+pub mod PropNamed
+pub mod PropSizes
 pub mod PropsLead
 pub mod Rebuilt
 pub mod Respelled

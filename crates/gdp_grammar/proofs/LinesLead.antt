@@ -74,13 +74,13 @@ pub words_appended : (xs ys : List (List ℕ)) → are_printed xs ≡ true → a
 words_appended [] ys p q = q
 words_appended (x ∷ xs) ys p q = let h = both (list_all is_printed x) (are_printed xs) p in and_true (list_all is_printed x) (are_printed (xs ++ ys)) h.0 (words_appended xs ys h.1 q)
 
-name_byte : (b : ℕ) → continues_name b ≡ true → is_printed b ≡ true
+pub name_byte : (b : ℕ) → continues_name b ≡ true → is_printed b ≡ true
 name_byte b p = grind (arith, nat_tests)
 
-start_byte : (b : ℕ) → begins_name b ≡ true → is_printed b ≡ true
+pub start_byte : (b : ℕ) → begins_name b ≡ true → is_printed b ≡ true
 start_byte b p = grind (arith, nat_tests)
 
-digit_byte : (b : ℕ) → is_digit b ≡ true → is_printed b ≡ true
+pub digit_byte : (b : ℕ) → is_digit b ≡ true → is_printed b ≡ true
 digit_byte b p = grind (arith, nat_tests)
 
 pub name_printed : (name : List ℕ) → is_name name ≡ true → list_all is_printed name ≡ true

@@ -5,7 +5,7 @@ use Rattle.gdp_grammar.specs.declared.cause.ReadCause.{ReadCause}
 use Rattle.gdp_grammar.specs.declared.symbol.Symbol.TheVariants.{Open, Close, Comma}
 use Rattle.gdp_grammar.specs.Keywords.{is_reserved}
 use Rattle.gdp_grammar.specs.Numerals.{Whole}
-use Rattle.gdp_grammar.specs.PropTexts.{Operator, counted}
+use Rattle.gdp_grammar.specs.PropTexts.{Operator}
 use Rattle.gdp_grammar.specs.PropReading.{Making, OperatorWord, plain, counting, operator_of, Place, wants, opens, counts, parts, has, after_word, on, closing, step_of, ended_of, going_on, made_of}
 use Rattle.gdp_grammar.specs.Tokens.{Piece, Word, Number, Mark}
 

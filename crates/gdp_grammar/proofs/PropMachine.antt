@@ -1,27 +1,23 @@
 -- The machine reads exactly the tokens that a proposition is written with.
-use Rattle.std.proofs.Common.{◌≡◌, ℕ, suc, Bool, true, false, ◌&&◌, ◌||◌, not, if◌then◌else◌, List, [], ◌∷◌, ◌++◌, length, codes, Option, None, Some, Result, Ok, Err, refl, ap, sym, subst, ◌∙◌, arith}
+use Rattle.std.proofs.Common.{◌≡◌, ℕ, suc, Bool, true, false, ◌&&◌, ◌||◌, not, if◌then◌else◌, List, [], ◌∷◌, ◌++◌, length, codes, Option, None, Some, Result, Ok, Err, refl, ap, sym, subst, ◌∙◌}
 use Rattle.std.specs.Prelude.{bytes_eq}
 use Rattle.std.proofs.lemmas.List.{append_assoc, append-nil}
 use Rattle.std.proofs.lemmas.Slice.Eq.{bytes_eq-Decides}
-use Rattle.block_tree.specs.Names.{has_name, reserved_words}
+use Rattle.block_tree.specs.Names.{reserved_words}
 use Rattle.propositions.specs.Tree.{implies, equivalent, xor}
 use Rattle.gdp_grammar.specs.declared.cause.ReadCause.{ReadCause}
 use Rattle.gdp_grammar.specs.declared.cause.ReadCause.TheVariants as cause
 use Rattle.gdp_grammar.specs.declared.symbol.Symbol.TheVariants.{Open, Close, Comma}
 use Rattle.gdp_grammar.specs.Keywords.{is_reserved}
 use Rattle.gdp_grammar.specs.Numerals.{Whole}
-use Rattle.gdp_grammar.specs.PropTexts.{Counting, exactly, at_least, at_most, Operator, negation, pair, all, some, counted, NamedProp, named, applied, NamedProps, no_arguments, argument, pair_word, counting_word, opening, pieces_of, pieces_of_arguments, pieces_of_further, argument_count, takes, is_formed, are_formed}
-use Rattle.gdp_grammar.specs.PropReading.{Making, OperatorWord, plain, counting, operator_of, Place, wants, opens, counts, parts, has, after_word, on, closing, step_of, ended_of, going_on, made_of, arguments, application, by_names, prop_of, PropositionsRead}
+use Rattle.gdp_grammar.specs.PropTexts.{exactly, at_least, at_most, Operator, negation, pair, all, some, counted, NamedProp, named, applied, NamedProps, no_arguments, argument, pair_word, counting_word, opening, pieces_of, pieces_of_arguments, pieces_of_further, argument_count, takes, is_formed, are_formed}
+use Rattle.gdp_grammar.specs.PropReading.{Making, OperatorWord, plain, counting, operator_of, Place, wants, opens, counts, parts, has, after_word, on, closing, step_of, going_on, made_of, arguments, application, by_names, prop_of, PropositionsRead}
 use Rattle.gdp_grammar.specs.Tokens.{Piece, Word, Number, Mark}
-use Rattle.gdp_grammar.proofs.Again.{both, and_true}
+use Rattle.gdp_grammar.proofs.Again.{both, and_true, not_true}
 
-neither : (a b : Bool) → (a || b) ≡ false → (a ≡ false) × (b ≡ false)
+pub neither : (a b : Bool) → (a || b) ≡ false → (a ≡ false) × (b ≡ false)
 neither true b e = absurd (cc e)
 neither false b e = (refl, e)
-
-not_true : (a : Bool) → not a ≡ true → a ≡ false
-not_true true p = absurd (cc p)
-not_true false p = refl
 
 -- a word that is not reserved begins no operator
 pub begins_none : (word : List ℕ) → is_reserved word ≡ false → operator_of word ≡ None
@@ -254,9 +250,6 @@ word_came word stack before None at b e f s = go (is_reserved word) refl e
         came_on (before ++ Word word ∷ []) stack (has (named word)) at e
         (record { frames = f; fair = ap not q; spells = ap (λ ts. ts ++ Word word ∷ []) s })
 
-opened_pieces : (fs ts us : List Piece) → (fs ++ ts) ++ us ≡ fs ++ (ts ++ us)
-opened_pieces fs ts us = append_assoc fs ts us
-
 step_came : (stack : Frames) (place : Place NamedProp) (t : Piece) (at : Frames × Place NamedProp) → step_of by_names stack place t ≡ Some at → are_frames stack ≡ true → is_place place ≡ true
     → CameOn (spelled stack place ++ t ∷ []) at
 step_came stack wants (Word word) at e f g = word_came word stack (spelled stack wants) (operator_of word) at (begins_as_told word) e f (sym (append-nil (frame_pieces stack)))
@@ -316,7 +309,7 @@ step_came (o ∷ os) (has p) (Mark Close) at e f g = go (takes o.0 (length (o.1 
               ap (λ ts. frame_pieces os ++ (opening o.0 ++ (ts ++ Mark Close ∷ []))) (parted o.1 p)
               ∙ close_moved (frame_pieces os) (opening o.0) (trailing o.1) (pieces_of p) (Mark Close ∷ []);
         })
-step_came stack place t at e f g = absurd (cc g)
+step_came stack place t at e f g = absurd (cc)
 
 -- what was read is the tokens of the proposition
 pub made_back : (ts : List Piece) (stack : Frames) (place : Place NamedProp) (p : NamedProp) → made_of by_names stack place ts ≡ Ok p → are_frames stack ≡ true → is_place place ≡ true

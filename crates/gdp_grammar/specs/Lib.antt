@@ -22,6 +22,7 @@ pub mod PointReading
 pub mod Points
 pub mod PropNames
 pub mod PropReading
+pub mod PropSizes
 pub mod PropTexts
 pub mod Reading
 pub mod Spelling

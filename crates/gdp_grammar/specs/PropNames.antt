@@ -1,5 +1,5 @@
 -- The Booleans that a proposition names, and the text that it is written with.
-use Rattle.std.specs.Prelude.{ℕ, Bool, true, ◌&&◌, List, [], ◌∷◌, ◌++◌, map, codes, Option, None, Some, is_some, unwrap_or, position, bytes_eq, slice_index_or}
+use Rattle.std.specs.Prelude.{ℕ, Bool, true, ◌&&◌, List, [], ◌++◌, map, codes, Option, is_some, unwrap_or, position, bytes_eq, slice_index_or}
 use Rattle.std.specs.Fmt.{decimal}
 use Rattle.propositions.specs.Tree.{ListConnective, all_of, some_of, PropTree, atom, negated, paired, listed, PropTrees, no_props, prop}
 use Rattle.propositions.specs.Tree as tree

@@ -1,5 +1,4 @@
 use Rattle.gdp_grammar.proofs.PropMachine.{propositions_read}
-use Rattle.gdp_grammar.proofs.PropFusion.{made_fused}
 use Rattle.gdp_grammar.proofs.prop_laws.propositions_read.Goals as goal
 
 pub returns : goal.returns
