@@ -27,7 +27,6 @@ cause_name cause.Nesting = codes "Nesting"
 cause_name cause.Unclosed = codes "Unclosed"
 cause_name cause.Limit = codes "Limit"
 cause_name cause.Missing = codes "Missing"
-cause_name cause.NotBuilt = codes "NotBuilt"
 
 -- the text behind a name is refused at this line for this cause
 abbrev pub refused_at : List ℕ → ℕ → ReadCause → List ℕ

@@ -27,7 +27,6 @@ fn name_of(cause: ReadCause) -> &'static [u8]
         ReadCause::Unclosed => b"Unclosed",
         ReadCause::Limit => b"Limit",
         ReadCause::Missing => b"Missing",
-        ReadCause::NotBuilt => b"NotBuilt",
     }
 }
 

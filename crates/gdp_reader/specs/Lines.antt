@@ -5,7 +5,7 @@ use Rattle.gdp_grammar.specs.Forms as text
 use Rattle.gdp_reader.specs.declared.form.Signed.{Signed}
 use Rattle.gdp_reader.specs.declared.form.Summand.{Summand}
 use Rattle.gdp_reader.specs.declared.form.Form.{Form}
-use Rattle.gdp_reader.specs.declared.form.Form.TheVariants.{Var, Boolean, Goal, Row, Disjunction, Disjunct, End}
+use Rattle.gdp_reader.specs.declared.form.Form.TheVariants.{Var, Boolean, Goal, Row, Logic, Disjunction, Disjunct, End}
 use Rattle.gdp_reader.specs.Tokens.{spelled}
 
 -- the number with its sign
@@ -26,6 +26,7 @@ form (Var name kind low high) = text.Var name.now kind (option_map signed low) (
 form (Boolean name) = text.Boolean name.now
 form (Goal sense sum constant) = text.Goal sense (map summand sum.items) (option_map signed constant)
 form (Row sum rel right) = text.Row (map summand sum.items) rel (signed right)
+form (Logic tokens) = text.Logic (tokens_of tokens.bytes.now)
 form (Disjunction mode) = text.Disjunction mode
 form (Disjunct name) = text.Disjunct name.now
 form End = text.End

@@ -275,6 +275,7 @@ pub fn add(
         Form::Boolean(name) => add_boolean(alloc, builder, line, name),
         Form::Goal(sense, sum, constant) => add_goal(alloc, builder, line, *sense, sum, constant),
         Form::Row(sum, rel, right) => add_row(alloc, builder, line, sum, *rel, right),
+        Form::Logic(tokens) => add_logic(alloc, builder, line, tokens),
         Form::Disjunction(mode) => open_disjunction(alloc, builder, line, *mode),
         Form::Disjunct(name) => open_disjunct(alloc, builder, line, name),
         Form::End => close(alloc, builder),

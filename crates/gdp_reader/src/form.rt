@@ -36,7 +36,6 @@ ghost use Rattle.gdp_grammar.specs.Forms.{
   disjunct_of,
   end_of,
   form_of,
-  is_logic as is_logic_line,
 };
 ghost use Rattle.gdp_reader.specs.Gives.{Gives};
 ghost use Rattle.gdp_reader.specs.Tokens.{spelled};
@@ -71,6 +70,8 @@ pub enum Form<'a> {
     Boolean(&'a str),
     Goal(Sense, Vec<Summand<'a>>, Option<Signed<'a>>),
     Row(Vec<Summand<'a>>, Rel, Signed<'a>),
+    /// The tokens of a proposition, which are read where it is added.
+    Logic(Tokens<'a>),
     Disjunction(Mode),
     Disjunct(&'a str),
     End,
@@ -507,16 +508,6 @@ fn end_line<'a>(tokens: &mut Tokens<'a>) -> Result<Form<'a>, LineError>
     Ok(Form::End)
 }
 
-/// Whether the first word is `logic`.
-pub fn is_logic(tokens: &Tokens<'_>) -> bool
-    ensures { result ≡ is_logic_line tokens.now }
-{
-    match tokens.peek() {
-        Some(Token::Word(word)) => word == "logic",
-        _ => false,
-    }
-}
-
 /// The form of a line.
 pub fn read_form<'a>(alloc: Global, tokens: &mut Tokens<'a>) -> Result<Form<'a>, LineError>
     ensures { Gives form result (form_of tokens.old) }
@@ -538,6 +529,9 @@ pub fn read_form<'a>(alloc: Global, tokens: &mut Tokens<'a>) -> Result<Form<'a>,
     }
     if word == "row" {
         return row_line(alloc, tokens);
+    }
+    if word == "logic" {
+        return Ok(Form::Logic(tokens.ahead()));
     }
     if word == "disjunction" {
         return disjunction_line(tokens);

@@ -14,7 +14,7 @@ ghost use Rattle.gdp_reader.specs.Taking.{taken_of, GivesText, IsReadAs, IsRefus
 use crate::building::{add, refused};
 use crate::error::ReadError;
 use crate::fault::LineError;
-use crate::form::{is_logic, read_form};
+use crate::form::read_form;
 use crate::line::{first_line, without_comment};
 use crate::token::Tokens;
 use crate::word::{are_words, is_blank};
@@ -81,11 +81,7 @@ impl Taking {
     fn take(&mut self, alloc: Global, line: u32, bytes: &[u8]) -> Result<(), LineError>
         ensures { Gives (λ _. taken_of self.new) result (with_line (taken_of self.old) line bytes.now) }
     {
-        let content = without_comment(bytes);
-        if is_logic(&Tokens::new(content)) {
-            return Err(LineError::Refused(ReadCause::NotBuilt));
-        }
-        self.take_content(alloc, line, content)
+        self.take_content(alloc, line, without_comment(bytes))
     }
 }
 

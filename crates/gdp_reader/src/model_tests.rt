@@ -52,7 +52,7 @@ fn each_cause_is_told_at_its_line(rt: HostRuntime) {
             ReadCause::Unclosed,
         ),
         (b"gdp 1\n\n# nothing\n", 4, ReadCause::Missing),
-        (b"gdp 1\nlogic p\n", 2, ReadCause::NotBuilt),
+        (b"gdp 1\nlogic p\n", 2, ReadCause::NameUnknown),
     ];
     expect_refused(&rt, &table);
 }
@@ -168,7 +168,7 @@ fn numbers_past_their_range_are_refused(rt: HostRuntime) {
 #[test]
 fn the_earlier_cause_is_told(rt: HostRuntime) {
     let table: [Refusal; 9] = [
-        (b"logic p\n", 1, ReadCause::NotBuilt),
+        (b"logic p\n", 1, ReadCause::Header),
         (b"gdp 1\nvar x real 0 1\nend\n", 3, ReadCause::Form),
         (
             b"gdp 1\nvar x real 0 1\nmin x\nmax x + x\n",
