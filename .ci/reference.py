@@ -105,7 +105,7 @@ class Tokens:
             sign = -1 if self.take("mark") == "-" else 1
 
     def proposition(self):
-        """A name, or an operator with its digits (None where it has none) and its arguments; read without recursion."""
+        """A name, or an operator with its digits, if any, and its arguments; read without recursion, of any depth."""
         opened = []
         while True:
             word, digits = self.take("word"), None
@@ -114,6 +114,7 @@ class Tokens:
                 if word in COUNTING:
                     digits = self.take("number")
                     refuse_if(not digits.isdigit(), "Form")
+                    digits = digits.lstrip("0") or "0"
                     self.take("mark", ",")
                 opened.append((word, digits, []))
                 continue
@@ -162,7 +163,7 @@ def proposition_text(proposition):
     if isinstance(proposition, str):
         return proposition
     word, digits, arguments = proposition
-    number = [] if digits is None else [str(int(digits))]
+    number = [] if digits is None else [digits]
     return f"{word}({', '.join(number + [proposition_text(argument) for argument in arguments])})"
 
 
@@ -267,8 +268,8 @@ class Model:
             nodes = nodes_of(proposition)
             operators = [part for part, _ in nodes if not isinstance(part, str)]
             refuse_if(any(isinstance(part, str) and part not in self.booleans for part, _ in nodes), "NameUnknown")
-            numbers = [digits.lstrip("0") for _, digits, _ in operators if digits]
-            refuse_if(any(len(digits) > 4 or int(digits or "0") > 1000 for digits in numbers), "Number")
+            numbers = [digits for _, digits, _ in operators if digits]
+            refuse_if(any(len(digits) > 4 or int(digits) > 1000 for digits in numbers), "Number")
             refuse_if(any(depth > 16 for _, depth in nodes), "Nesting")
             refuse_if(any(len(arguments) > 200 for _, _, arguments in operators), "Limit")
             refuse_if(self.node_count + len(nodes) > 5000, "Limit")
