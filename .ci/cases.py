@@ -211,13 +211,11 @@ def refusals():
         ("a goal with two constants", x + b"min x + 2 + 3\n", 3, "Form"),
         ("a goal whose scale passes the limit", x + b"min 1/1000003 x + 1/1000000007\n", 3, "Number"),
         ("a constant past the limit", x + b"min x + 1000000000000001\n", 3, "Number"),
-        ("logic, of a later stage", MODEL + b"logic x\n", 4, "NotBuilt"),
-        ("whatever else is wrong with it", MODEL + b"logic \xc8 not(\n", 4, "NotBuilt"),
         ("a bad line before logic", x + b"row y <= 1\nlogic x\n", 3, "NameUnknown"),
-        ("logic before the header", b"\nlogic x\n" + MODEL, 2, "NotBuilt"),
-        ("logic run together", MODEL + b"logic(x)\n", 4, "NotBuilt"),
+        ("logic before the header", b"\nlogic x\n" + MODEL, 2, "Header"),
+        ("logic run together", MODEL + b"logic(x)\n", 4, "Form"),
         ("a name that begins with logic", MODEL + b"logic_x\n", 4, "Form"),
-        ("logic before a bad line", x + b"logic x\nrow y <= 1\n", 3, "NotBuilt"),
+        ("logic before a bad line", x + b"logic x\nrow y <= 1\n", 3, "NameUnknown"),
         ("an end at the root", MODEL + b"end\n", 4, "Form"),
         ("a word after an end", xor + b"end end\n", 5, "Form"),
         ("a disjunction of another mode", x + b"disjunction and\n", 3, "Form"),
@@ -395,6 +393,199 @@ def formats():
     return [Case(f"format: {name}", ["format", "M"], {"M": text}, 0, canonical) for name, text, canonical in rows]
 
 
+LOGIC = b"gdp 1\nvar x real 0 10\nboolean p\nboolean q\n"
+BELOW = b"""gdp 1
+var x real 0 10
+boolean p
+boolean q
+disjunction xor
+disjunct a
+logic implies(a, p)
+disjunction or
+disjunct c
+logic not(q)
+row x <= 7
+end
+disjunct d
+logic not(and(c, d))
+end
+end
+logic xor(c, d)
+end
+disjunct b
+logic not(p)
+end
+end
+logic or(b, not(p), atleast(1, c, d))
+"""
+BELOW_CANONICAL = b"""gdp 1
+var x real 0 10
+boolean p
+boolean q
+min 0
+disjunction xor
+disjunct a
+disjunction or
+disjunct c
+row 1 x <= 7
+logic not(q)
+end
+disjunct d
+logic not(and(c, d))
+end
+end
+logic implies(a, p)
+logic xor(c, d)
+end
+disjunct b
+logic not(p)
+end
+end
+logic or(b, not(p), atleast(1, c, d))
+"""
+TWO = b"gdp 1\nvar x real 0 1\ndisjunction xor\ndisjunct a\nend\ndisjunct b\nend\nend\nlogic exactly(2, a, b)\n"
+
+
+def nots(count, inner=b"p"):
+    """The proposition within so many `not`."""
+    return b"not(" * count + inner + b")" * count
+
+
+def applied(word, count, inner=b"p", before=b""):
+    """The connective over so many times one argument."""
+    return word + b"(" + before + b", ".join([inner] * count) + b")"
+
+
+def truths():
+    """Propositions of p and q, and their truth where the two are 00, 01, 10 and 11."""
+    table = [
+        (b"p", "0011"),
+        (b"not(p)", "1100"),
+        (b"and(p, q)", "0001"),
+        (b"or(p, q)", "0111"),
+        (b"implies(p, q)", "1101"),
+        (b"equivalent(p, q)", "1001"),
+        (b"xor(p, q)", "0110"),
+        (b"exactly(0, p, q)", "1000"),
+        (b"exactly(1, p, q)", "0110"),
+        (b"exactly(2, p, q)", "0001"),
+        (b"exactly(3, p, q)", "0000"),
+        (b"atleast(0, p, q)", "1111"),
+        (b"atleast(1, p, q)", "0111"),
+        (b"atleast(2, p, q)", "0001"),
+        (b"atleast(3, p, q)", "0000"),
+        (b"atmost(0, p, q)", "1000"),
+        (b"atmost(1, p, q)", "1110"),
+        (b"atmost(2, p, q)", "1111"),
+        (b"and(q)", "0101"),
+        (b"exactly(1, q)", "0101"),
+        (b"exactly(2, p, p)", "0011"),
+        (b"atmost(1000, p)", "1111"),
+        (b"exactly(01, p)", "0011"),
+        (b"implies(and(p, q), or(not(p), not(q)))", "1110"),
+        (b"equivalent(xor(p, q), exactly(1, p, q))", "1111"),
+        (b"and(atleast(1, p, q), not(equivalent(q, p)))", "0110"),
+        (nots(15), "1100"),
+        (nots(14), "0011"),
+    ]
+    rows = []
+    for proposition, told in table:
+        for names, truth in zip(([], [b"q"], [b"p"], [b"p", b"q"]), told):
+            answer_is = (0, b"holds\n") if truth == "1" else (1, b"fails at line 5\n")
+            rows.append(tested(f"logic: {proposition.decode()} at {len(rows) % 4:02b}", LOGIC + b"logic " + proposition + b"\n", on(names, 5), *answer_is))
+    return rows
+
+
+def propositions():
+    """Propositions in their place, and those that are refused."""
+    line = b"logic %s\n"
+    full = LOGIC + line % applied(b"or", 199) * 25
+    shared = LOGIC + b"disjunction or\ndisjunct a\n" + line % applied(b"and", 199) * 12 + b"end\ndisjunct b\n" + line % applied(b"and", 199) * 13
+    last = LOGIC + b"disjunction xor\ndisjunct a\nend\nend\nlogic not(a)\nlogic p\nrow x <= 1\n"
+    verdicts = [
+        ("two of an xor, none is", TWO, on([], 1), "fails at line 9"),
+        ("two of an xor, the first", TWO, on([b"a"], 1), "fails at line 9"),
+        ("two of an xor, the second", TWO, on([b"b"], 1), "fails at line 9"),
+        ("two of an xor, both", TWO, on([b"a", b"b"], 1), "fails at line 3"),
+        ("a row before propositions and disjunctions", last, on([], 5), "fails at line 11"),
+        ("a proposition before disjunctions", last, on([], 1), "fails at line 10"),
+        ("the first of two propositions", last, on([b"a"], 1), "fails at line 9"),
+        ("then the disjunctions", last, on([b"p"], 1), "fails at line 5"),
+        ("a bound before a proposition", LOGIC + b"logic p\n", on([], 11), "fails at line 2"),
+        ("a wide row before a proposition", LOGIC.replace(b"10", b"inf") + b"logic p\nrow 2 x >= 0\n", on([], GREATEST), "wide at line 6"),
+        ("all nested ones hold", BELOW, on([b"a", b"c", b"p"], 5), "holds"),
+        ("of a disjunct two deep", BELOW, on([b"a", b"c", b"p", b"q"], 5), "fails at line 10"),
+        ("a row in it before its propositions", BELOW, on([b"a", b"c", b"p", b"q"], 8), "fails at line 11"),
+        ("of the root first", BELOW, on([b"a", b"p", b"q"], 5), "fails at line 23"),
+        ("in a disjunct, before its disjunctions", BELOW, on([b"a"], 5), "fails at line 7"),
+        ("written after a disjunction, but tested before it", BELOW, on([b"a", b"c", b"d", b"p"], 5), "fails at line 17"),
+        ("not under a false disjunct", BELOW, on([b"b", b"q"], 5), "holds"),
+        ("under the true one", BELOW, on([b"b", b"p"], 5), "fails at line 20"),
+        ("an indicator below a false one", BELOW, on([b"b", b"c"], 5), "fails at line 9"),
+        ("200 arguments", LOGIC + line % applied(b"atleast", 200, before=b"200, "), on([b"p"], 5), "holds"),
+        ("5,000 nodes", full, on([b"p"], 5), "holds"),
+        ("5,000 nodes in two blocks", shared + b"end\nend\n", on([b"p", b"b"], 5), "holds"),
+        ("blanks at will", LOGIC + b"\tlogic  and\t( exactly ( 1 ,p,q ),not(q) ) \n", on([b"p"], 5), "holds"),
+        ("no blanks", LOGIC + b"logic atmost(1,p,not(q))# so\n", on([b"p", b"q"], 5), "holds"),
+        ("names that begin like connectives", LOGIC + b"boolean and_\nboolean notp\nlogic and(and_,notp)\n", on([b"and_", b"notp"], 5), "holds"),
+        ("Booleans with the names of lines", LOGIC + b"boolean logic\nboolean row\nlogic or(logic, row)\n", on([b"row"], 5), "holds"),
+        ("no line of logic", LOGIC, on([b"p"], 5), "holds"),
+    ]
+    rows = [tested(f"logic: {name}", model, at_point, {"h": 0, "f": 1, "w": 3}[out[0]], out.encode() + b"\n") for name, model, at_point, out in verdicts]
+    forms = [b"", b"and()", b"or( )", b"not()", b"exactly(1)", b"atmost(1,)", b"atleast()", b"exactly(p)", b"exactly(p, 1)"]
+    forms += [b"exactly(1.0, p)", b"exactly(1/1, p)", b"exactly(-1, p)", b"exactly(+1, p)", b"exactly(1 p)", b"exactly 1(p)", b"exactly(1, 2, p)"]
+    forms += [b"inf", b"end", b"not", b"not p", b"not(end)", b"and(p, inf)", b"and(xor, p)", b"p q", b"p or q", b"(p)", b"p()", b"p(q)", b"((p))"]
+    forms += [b"not(p, q)", b"implies(p)", b"implies(p, q, p)", b"equivalent(p)", b"xor(p)", b"xor(p, q, p)", b"and(p,, q)", b"and(, p)", b"and(p, )"]
+    forms += [b"and(p q)", b"and(p", b"and(p, q", b"p)", b"and(p))", b"and)", b"p,", b"1", b"p <= q", b"not(p) q", b"And(p)", b"and[p]", b"and(p; q)", b"p \xc8"]
+    forms += [b"not(", b"exactly(", b"exactly(1", b"exactly(1,", b"and(p, 2 q)", b"logic p"]
+    refused = [(form, "Form") for form in forms]
+    refused += [(form, "NameUnknown") for form in (b"r", b"x", b"not(x)", b"P", b"logic", b"and(p, r)", b"n" * 65, b"not(%s)" % (b"n" * 65), b"And")]
+    refused += [(b"exactly(%s, p)" % number, "Number") for number in (b"1001", b"01001", b"9" * 400, b"18446744073709551617")]
+    refused += [(b"not(and(p, atmost(1001, p)))", "Number"), (nots(16), "Nesting"), (b"or(%s, p, %s)" % (nots(14), nots(15)), "Nesting")]
+    refused += [(applied(b"or", 201), "Limit"), (b"not(%s)" % applied(b"atmost", 201, before=b"5, "), "Limit"), (applied(b"and", 26, applied(b"or", 192)), "Limit")]
+    # Each holds what is named and all that comes after it in the order of causes.
+    many, deep, great = b", ".join([b"p"] * 200), nots(16), b"atleast(1001, q)"
+    refused += [(b"and(%s, %s, %s, r, )" % (many, deep, great), "Form"), (b"and(%s, %s, %s, r)" % (many, deep, great), "NameUnknown")]
+    refused += [(b"and(%s, %s, %s)" % (many, deep, great), "Number"), (b"and(%s, %s)" % (many, deep), "Nesting"), (b"and(%s, q)" % many, "Limit")]
+    refused += [(b"exactly(1001, r)", "NameUnknown"), (nots(16, b"r"), "NameUnknown"), (nots(16, great), "Number"), (applied(b"and", 201, b"r"), "NameUnknown")]
+    refused += [(applied(b"atleast", 201, before=b"1001, "), "Number"), (nots(16) + b")", "Form"), (b"exactly(1001)", "Form"), (b"exactly(1001.0, r)", "Form")]
+    for text, cause in refused:
+        name = text.decode("latin-1") if len(text) < 60 else f"{text[:30].decode()}..{text[-30:].decode()}"
+        rows.append(tested(f"logic: {name}: {cause}", LOGIC + line % text, on([], 5), 2, err=b"M: line 5: %s\n" % cause.encode()))
+    texts = [
+        ("1001 on line 4", b"gdp 1\nvar x real 0 1\nboolean p\nlogic exactly(1001, p)\n", 4, "Number"),
+        ("16 nots on line 4", b"gdp 1\nvar x real 0 1\nboolean p\nlogic " + nots(16) + b"\n", 4, "Nesting"),
+        ("in a disjunction", LOGIC + b"disjunction or\nlogic p\n", 6, "Form"),
+        ("in a disjunction, of an unknown name", LOGIC + b"disjunction or\nlogic r\n", 6, "Form"),
+        ("in a disjunction after a disjunct", LOGIC + b"disjunction or\ndisjunct a\nend\nlogic a\n", 8, "Form"),
+        ("an indicator before its disjunct", LOGIC + b"disjunction or\ndisjunct a\nlogic b\nend\ndisjunct b\n", 7, "NameUnknown"),
+        ("an indicator within its disjunct, and then an unknown one", LOGIC + b"disjunction or\ndisjunct a\nlogic a\nlogic b\n", 8, "NameUnknown"),
+        ("a Boolean before its line", b"gdp 1\nvar x real 0 1\nlogic p\nboolean p\n", 3, "NameUnknown"),
+        ("a Boolean after logic and before a disjunction", LOGIC + b"logic p\nboolean r\nlogic s\n", 7, "NameUnknown"),
+        ("one node more than 5,000", full + b"logic p\n", 30, "Limit"),
+        ("one node more than 5,000, in another block", shared + b"logic p\n", 34, "Limit"),
+        ("one node more than 5,000, at the root", shared + b"end\nend\nlogic p\n", 36, "Limit"),
+        ("201 nodes where 200 are left", full[: -len(line % applied(b"or", 199))] + line % applied(b"or", 200), 29, "Limit"),
+        ("the header as a proposition", b"gdp 1\nlogic gdp\n", 2, "NameUnknown"),
+        ("a stray byte in the logic", MODEL + b"logic \xc8 not(\n", 4, "Form"),
+        ("no variable", b"gdp 1\nboolean p\nlogic p\n", 4, "Missing"),
+    ]
+    rows += [tested(f"logic: {name}", text, on([], 5), 2, err=b"M: line %d: %s\n" % (at_line, cause.encode())) for name, text, at_line, cause in texts]
+    canonical = [
+        ("after disjunctions in each block", BELOW, BELOW_CANONICAL),
+        ("a canonical text stays", BELOW_CANONICAL, BELOW_CANONICAL),
+        ("a count with leading zeros", b"gdp 1\nvar x real 0 1\nboolean p\nlogic exactly(01, p)\n", b"gdp 1\nvar x real 0 1\nboolean p\nmin 0\nlogic exactly(1, p)\n"),
+        ("counts of noughts and to the limit", LOGIC + b"logic and(atmost(000,p),atleast(01000,q))\n", LOGIC + b"min 0\nlogic and(atmost(0, p), atleast(1000, q))\n"),
+        ("blanks", LOGIC + b" logic\timplies ( p,not( q ) ) # so\nlogic  p\n", LOGIC + b"min 0\nlogic implies(p, not(q))\nlogic p\n"),
+        ("lists of one as written", LOGIC + b"logic and(or(exactly(1, p)))\n", LOGIC + b"min 0\nlogic and(or(exactly(1, p)))\n"),
+        ("all connectives", LOGIC + b"logic equivalent(xor(p,q),or(and(p,q),atmost(1,q)))\n", LOGIC + b"min 0\nlogic equivalent(xor(p, q), or(and(p, q), atmost(1, q)))\n"),
+        ("15 nots", LOGIC + line % nots(15), LOGIC + b"min 0\n" + line % nots(15)),
+        ("rows first, propositions last", LOGIC + b"logic q\ndisjunction or\ndisjunct a\nend\nend\nlogic a\nrow x <= 1\n", LOGIC + b"min 0\nrow 1 x <= 1\ndisjunction or\ndisjunct a\nend\nend\nlogic q\nlogic a\n"),
+        ("5,000 nodes formatted", full, full.replace(b"boolean q\n", b"boolean q\nmin 0\n", 1)),
+    ]
+    return rows + [Case(f"logic: {name}", ["format", "M"], {"M": text}, 0, told) for name, text, told in canonical]
+
+
 def words():
     """Words of no form, of which nothing is read."""
     files = {"M": MODEL, "P": at(3)}
@@ -468,6 +659,16 @@ def sizes():
         row("values to the limit", MODEL, b"gdp-point 1\nover 1\nval x 3\n" + b"val x 3\n" * 1_000_000, 2, err=b"P: line 4: NameTwice\n"),
         Case("size: 9 MB to format", ["format", "M"], {"M": long}, 2, err=b"M: too long\n", is_long=True),
         row("blanks in a line to the limit", MODEL[:-2] + b" " * (LIMIT - len(MODEL)) + MODEL[-2:], at(3), 0, b"holds\n"),
+        row("a million nots, open", LOGIC + b"logic " + b"not(" * 1_000_000 + b"\n", at(3), 2, err=b"M: line 5: Form\n"),
+        row("a million nots, one of them open", LOGIC + b"logic " + nots(1_000_000)[:-1], at(3), 2, err=b"M: line 5: Form\n"),
+        row("a million nots", LOGIC + b"logic " + nots(1_000_000) + b"\n", at(3), 2, err=b"M: line 5: Nesting\n"),
+        row("a million nots of no Boolean", LOGIC + b"logic " + nots(1_000_000, b"r") + b"\n", at(3), 2, err=b"M: line 5: NameUnknown\n"),
+        row("arguments to the limit", LOGIC + b"logic or(p" + b",p" * 4_000_000 + b")\n", at(3), 2, err=b"M: line 5: Limit\n"),
+        row("arguments to the limit, open", LOGIC + b"logic or(p" + b",p" * 4_000_000, at(3), 2, err=b"M: line 5: Form\n"),
+        row("a count to the limit", LOGIC + b"logic atmost(" + b"7" * 8_000_000 + b",p)\n", at(3), 2, err=b"M: line 5: Number\n"),
+        row("a count of noughts to the limit", LOGIC + b"logic atmost(" + b"0" * 8_000_000 + b"1,p)\n", at(3), 0, b"holds\n"),
+        row("closing parentheses to the limit", LOGIC + b"logic not(p" + b")" * 8_000_000, at(3), 2, err=b"M: line 5: Form\n"),
+        row("lines of logic to the limit", LOGIC + b"logic p\n" * 1_000_000, at(3), 2, err=b"M: line 5005: Limit\n"),
         row("the full model holds", full, holding, 0, b"holds\n"),
         row("the full model fails at its last row", full, failing, 1, b"fails at line %d\n" % LAST),
         Case("size: the full model, formatted", ["format", "M"], {"M": full}, 0, full.replace(b"disjunction", b"min 0\ndisjunction", 1), is_long=True),
@@ -504,7 +705,7 @@ def streams():
 
 def examples(root):
     """Each example with its points, read where it stands, and its canonical text; the README of the examples says the lines."""
-    said = {"blend": 7, "delivery": 12, "tank": 5, "process_route": 20, "transport": 34, "schedule": 9}
+    said = {"blend": 7, "delivery": 12, "tank": 5, "process_route": 20, "transport": 34, "schedule": 9, "site_selection": 58, "plant_units": 33}
     folder = root / "examples"
     rows = []
     for path in sorted(folder.glob("*.gdp")):
@@ -538,5 +739,5 @@ def drawn(count):
 
 def cases(root):
     """The whole table."""
-    told = verdicts() + spellings() + refusals() + choices() + formats() + words() + reads() + sizes() + streams() + examples(root)
+    told = verdicts() + spellings() + refusals() + choices() + formats() + truths() + propositions() + words() + reads() + sizes() + streams() + examples(root)
     return checked(told) + drawn(600)

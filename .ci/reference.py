@@ -11,6 +11,10 @@ from math import gcd, lcm
 MOST = 10**15
 BYTES = 8_388_608
 RESERVED = set("not and or implies equivalent xor exactly atleast atmost inf end".split())
+# The operators, and the least and the most arguments that each takes; those of `COUNTING` have a number before them.
+COUNTING = ("exactly", "atleast", "atmost")
+ARGUMENTS = {"not": (1, 1), "implies": (2, 2), "equivalent": (2, 2), "xor": (2, 2)}
+ARGUMENTS |= {word: (1, None) for word in ("and", "or", *COUNTING)}
 TOKEN = re.compile(rb"[ \t]*(?:([A-Za-z_][A-Za-z0-9_.]*)|([0-9]+(?:[./][0-9]+)?)|(<=|>=|[-+=(),]))")
 
 
@@ -100,8 +104,67 @@ class Tokens:
                 return terms, (1, "0")
             sign = -1 if self.take("mark") == "-" else 1
 
+    def proposition(self):
+        """A name, or an operator with its digits, if any, and its arguments; read without recursion, of any depth."""
+        opened = []
+        while True:
+            word, digits = self.take("word"), None
+            if word in ARGUMENTS:
+                self.take("mark", "(")
+                if word in COUNTING:
+                    digits = self.take("number")
+                    refuse_if(not digits.isdigit(), "Form")
+                    digits = digits.lstrip("0") or "0"
+                    self.take("mark", ",")
+                opened.append((word, digits, []))
+                continue
+            refuse_if(word in RESERVED, "Form")
+            made = word
+            while opened:
+                word, digits, arguments = opened[-1]
+                arguments.append(made)
+                if self.take("mark", ",", ")") == ",":
+                    break
+                least, most = ARGUMENTS[word]
+                refuse_if(len(arguments) < least or most and len(arguments) > most, "Form")
+                made = opened.pop()
+            else:
+                return made
+
     def end(self):
         refuse_if(self.at < len(self.tokens), "Form")
+
+
+def nodes_of(proposition):
+    """Each name and each operator with what is under it, beside its depth."""
+    waiting, found = [(proposition, 1)], []
+    while waiting:
+        found.append(waiting.pop())
+        part, depth = found[-1]
+        if not isinstance(part, str):
+            waiting += [(argument, depth + 1) for argument in part[2]]
+    return found
+
+
+def truth(proposition, truths):
+    if isinstance(proposition, str):
+        return proposition in truths
+    word, digits, arguments = proposition
+    told = [truth(argument, truths) for argument in arguments]
+    if word in ("equivalent", "xor"):
+        return (told[0] == told[1]) == (word == "equivalent")
+    if word in COUNTING:
+        number, count = int(digits), sum(told)
+        return {"exactly": count == number, "atleast": count >= number, "atmost": count <= number}[word]
+    return {"not": not told[0], "and": all(told), "or": any(told), "implies": not told[0] or told[-1]}[word]
+
+
+def proposition_text(proposition):
+    if isinstance(proposition, str):
+        return proposition
+    word, digits, arguments = proposition
+    number = [] if digits is None else [digits]
+    return f"{word}({', '.join(number + [proposition_text(argument) for argument in arguments])})"
 
 
 def value(signed):
@@ -118,7 +181,8 @@ def value(signed):
 
 class Block:
     def __init__(self, indicator=None, mark=0):
-        self.indicator, self.mark, self.rows, self.disjunctions = indicator, mark, [], []
+        self.indicator, self.mark = indicator, mark
+        self.rows, self.propositions, self.disjunctions = [], [], []
 
 
 class Disjunction:
@@ -128,7 +192,7 @@ class Disjunction:
 
 class Model:
     def __init__(self):
-        self.vars, self.booleans, self.goal, self.row_count = {}, {}, None, 0
+        self.vars, self.booleans, self.goal, self.row_count, self.node_count = {}, {}, None, 0, 0
         self.plain = []
         self.opened = [Block()]
 
@@ -197,6 +261,20 @@ class Model:
             refuse_if(self.row_count == 1000, "Limit")
             self.row_count += 1
             at.rows.append((stored, relation, right, line))
+        elif word == "logic":
+            proposition = tokens.proposition()
+            tokens.end()
+            refuse_if(not in_block, "Form")
+            nodes = nodes_of(proposition)
+            operators = [part for part, _ in nodes if not isinstance(part, str)]
+            refuse_if(any(isinstance(part, str) and part not in self.booleans for part, _ in nodes), "NameUnknown")
+            numbers = [digits for _, digits, _ in operators if digits]
+            refuse_if(any(len(digits) > 4 or int(digits) > 1000 for digits in numbers), "Number")
+            refuse_if(any(depth > 16 for _, depth in nodes), "Nesting")
+            refuse_if(any(len(arguments) > 200 for _, _, arguments in operators), "Limit")
+            refuse_if(self.node_count + len(nodes) > 5000, "Limit")
+            self.node_count += len(nodes)
+            at.propositions.append((proposition, line))
         elif word == "disjunction":
             mode = tokens.take("word", "xor", "or")
             tokens.end()
@@ -231,7 +309,6 @@ def read_model(text):
     for number, line in enumerate(lines, 1):
         try:
             tokens = tokens_of(line)
-            refuse_if(tokens[:1] == [("word", "logic")], "NotBuilt")
             if headed and tokens:
                 model.line(number, Tokens(tokens))
             elif tokens:
@@ -316,6 +393,8 @@ def verdict(model, values, over, truths):
                 left = fits(left + fits(coefficient * values[name], mark), mark)
             right = fits(right * over, mark)
             fail_if(not {"<=": left <= right, ">=": left >= right, "=": left == right}[relation], mark)
+        for proposition, mark in block.propositions:
+            fail_if(not truth(proposition, truths), mark)
         for disjunction in block.disjunctions:
             count = sum(d.indicator in truths for d in disjunction.disjuncts)
             fail_if(count != 1 if disjunction.mode == "xor" else count < 1, disjunction.mark)
@@ -376,6 +455,7 @@ def canonical(model):
                 put(disjunct)
                 lines.append("end")
             lines.append("end")
+        lines.extend(f"logic {proposition_text(proposition)}" for proposition, _ in block.propositions)
 
     put(model.root)
     return "".join(line + "\n" for line in lines)
