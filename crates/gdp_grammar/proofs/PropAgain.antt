@@ -36,28 +36,28 @@ abbrev mutual
   have_fair_names no_arguments = true
   have_fair_names (argument p ps) = has_fair_names p && have_fair_names ps
 
-open_token : (after : List ℕ) → tokens_of (40 ∷ after) ≡ Mark Open ∷ tokens_of after
+pub open_token : (after : List ℕ) → tokens_of (40 ∷ after) ≡ Mark Open ∷ tokens_of after
 unfolding token_of
 open_token after = token_before 40 after refl
 
-close_token : (after : List ℕ) → tokens_of (41 ∷ after) ≡ Mark Close ∷ tokens_of after
+pub close_token : (after : List ℕ) → tokens_of (41 ∷ after) ≡ Mark Close ∷ tokens_of after
 unfolding token_of
 close_token after = token_before 41 after refl
 
-comma_token : (after : List ℕ) → tokens_of (44 ∷ 32 ∷ after) ≡ Mark Comma ∷ tokens_of after
+pub comma_token : (after : List ℕ) → tokens_of (44 ∷ 32 ∷ after) ≡ Mark Comma ∷ tokens_of after
 unfolding token_of
 comma_token after = token_before 44 (32 ∷ after) refl ∙ ap (λ ts. Mark Comma ∷ ts) (blank_before 32 after refl)
 
 -- a word before an opening parenthesis
-word_opens : (b : ℕ) (bs after : List ℕ) → begins_name b ≡ true → list_all continues_name bs ≡ true → tokens_of (b ∷ bs ++ 40 ∷ after) ≡ Word (b ∷ bs) ∷ Mark Open ∷ tokens_of after
+pub word_opens : (b : ℕ) (bs after : List ℕ) → begins_name b ≡ true → list_all continues_name bs ≡ true → tokens_of (b ∷ bs ++ 40 ∷ after) ≡ Word (b ∷ bs) ∷ Mark Open ∷ tokens_of after
 word_opens b bs after p q = word_stops b bs (40 ∷ after) p q refl ∙ ap (λ ts. Word (b ∷ bs) ∷ ts) (open_token after)
 
-comma_numeral : (digits after : List ℕ) → numeral_of digits (44 ∷ after) ≡ (Whole digits, 44 ∷ after)
+pub comma_numeral : (digits after : List ℕ) → numeral_of digits (44 ∷ after) ≡ (Whole digits, 44 ∷ after)
 unfolding numeral_of
 comma_numeral digits [] = refl
 comma_numeral digits (b ∷ bs) = refl
 
-fair_digits : (digits : List ℕ) → (nat_le 1 (length digits) && list_all is_digit digits) ≡ true → AreDigits digits
+pub fair_digits : (digits : List ℕ) → (nat_le 1 (length digits) && list_all is_digit digits) ≡ true → AreDigits digits
 fair_digits digits e =
     let h = both (nat_le 1 (length digits)) (list_all is_digit digits) e in
     record { some = above (length digits) h.0; all = h.1 }
@@ -66,14 +66,14 @@ fair_digits digits e =
     above n e = grind (arith, nat_tests)
 
 -- the number of a counting operator and the comma behind it
-number_token : (digits after : List ℕ) → (nat_le 1 (length digits) && list_all is_digit digits) ≡ true → tokens_of ((digits ++ codes ", ") ++ after) ≡ Number (Whole digits) ∷ Mark Comma ∷ tokens_of after
+pub number_token : (digits after : List ℕ) → (nat_le 1 (length digits) && list_all is_digit digits) ≡ true → tokens_of ((digits ++ codes ", ") ++ after) ≡ Number (Whole digits) ∷ Mark Comma ∷ tokens_of after
 number_token digits after e =
     ap tokens_of (append_assoc digits (codes ", ") after)
     ∙ whole_stops digits (44 ∷ 32 ∷ after) (fair_digits digits e) refl (comma_numeral digits (32 ∷ after))
     ∙ ap (λ ts. Number (Whole digits) ∷ ts) (comma_token after)
 
 -- what is written before the first argument
-opening_tokens : (o : Operator) (after : List ℕ) → has_fair_number o ≡ true → tokens_of (opening_text o ++ after) ≡ opening o ++ tokens_of after
+pub opening_tokens : (o : Operator) (after : List ℕ) → has_fair_number o ≡ true → tokens_of (opening_text o ++ after) ≡ opening o ++ tokens_of after
 opening_tokens negation after e = word_opens 110 (codes "ot") after refl refl
 opening_tokens (pair implies) after e = word_opens 105 (codes "mplies") after refl refl
 opening_tokens (pair equivalent) after e = word_opens 101 (codes "quivalent") after refl refl
@@ -88,7 +88,7 @@ opening_tokens (counted at_most digits) after e =
     word_opens 97 (codes "tmost") ((digits ++ codes ", ") ++ after) refl refl ∙ ap (λ ts. Word (codes "atmost") ∷ Mark Open ∷ ts) (number_token digits after e)
 
 -- further arguments begin with a comma, and without them comes the parenthesis
-further_stops : (ps : NamedProps) (after : List ℕ) → Stops class.Name (further_text ps ++ 41 ∷ after)
+pub further_stops : (ps : NamedProps) (after : List ℕ) → Stops class.Name (further_text ps ++ 41 ∷ after)
 further_stops no_arguments after = refl
 further_stops (argument p ps) after = refl
 
@@ -134,17 +134,17 @@ logic_line_tokens p e =
     ∙ ap (λ ts. Word (codes "logic") ∷ ts) (blank_before 32 (prop_text p ++ []) refl ∙ ap tokens_of (append-nil (prop_text p)) ∙ whole_text_tokens p e)
 
 -- the bytes of a name
-shape_printed : (name : List ℕ) → has_name_shape name ≡ true → list_all is_printed name ≡ true
+pub shape_printed : (name : List ℕ) → has_name_shape name ≡ true → list_all is_printed name ≡ true
 shape_printed [] p = refl
 shape_printed (b ∷ bs) p =
     let s = both (begins_name b) (list_all continues_name bs) p in
     and_true (is_printed b) (list_all is_printed bs) (start_byte b s.0) (all_weaker continues_name is_printed bs name_byte s.1)
 
-number_printed : (digits : List ℕ) → (nat_le 1 (length digits) && list_all is_digit digits) ≡ true → list_all is_printed (digits ++ codes ", ") ≡ true
+pub number_printed : (digits : List ℕ) → (nat_le 1 (length digits) && list_all is_digit digits) ≡ true → list_all is_printed (digits ++ codes ", ") ≡ true
 number_printed digits e =
     all_appended is_printed digits (codes ", ") (all_weaker is_digit is_printed digits digit_byte (both (nat_le 1 (length digits)) (list_all is_digit digits) e).1) refl
 
-opening_printed : (o : Operator) → has_fair_number o ≡ true → list_all is_printed (opening_text o) ≡ true
+pub opening_printed : (o : Operator) → has_fair_number o ≡ true → list_all is_printed (opening_text o) ≡ true
 opening_printed negation e = refl
 opening_printed (pair implies) e = refl
 opening_printed (pair equivalent) e = refl
@@ -178,18 +178,18 @@ pub logic_line_printed : (p : NamedProp) → has_fair_names p ≡ true → list_
 logic_line_printed p e = line_printed (codes "logic") (prop_text p ∷ []) refl (and_true (list_all is_printed (prop_text p)) true (text_printed p e) refl)
 
 -- The names of Booleans have the shape of names, and numbers are written with digits.
-shape_of : (name : List ℕ) → is_name name ≡ true → has_name_shape name ≡ true
+pub shape_of : (name : List ℕ) → is_name name ≡ true → has_name_shape name ≡ true
 unfolding is_name
 shape_of name p =
     (both (has_name_shape name) (nat_le (length name) 64) (both (has_name_shape name && nat_le (length name) 64) (not (has_name name reserved_words)) p).0).0
 
-fair_decimal : (digits : List ℕ) → AreDigits digits → (nat_le 1 (length digits) && list_all is_digit digits) ≡ true
+pub fair_decimal : (digits : List ℕ) → AreDigits digits → (nat_le 1 (length digits) && list_all is_digit digits) ≡ true
 fair_decimal digits d = and_true (nat_le 1 (length digits)) (list_all is_digit digits) (above (length digits) d.some) d.all
   where
     above : (n : ℕ) → 0 < n → nat_le 1 n ≡ true
     above n h = grind (arith, nat_tests)
 
-fair_operator : (c : ListConnective) → number_of c < 10 ^ 64 → has_fair_number (list_operator c) ≡ true
+pub fair_operator : (c : ListConnective) → number_of c < 10 ^ 64 → has_fair_number (list_operator c) ≡ true
 fair_operator all_of h = refl
 fair_operator some_of h = refl
 fair_operator (tree.exactly n) h = fair_decimal _ (decimal_digits n h)

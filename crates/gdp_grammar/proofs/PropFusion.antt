@@ -30,14 +30,14 @@ result_map f (Ok p) = Ok (f p)
 result_map f (Err c) = Err c
 
 -- the same stack and place, with what f and g give
-abbrev mapped_at : {P O Q R : Type 0} → (P → Q) → (O → R) → List O × Place P → List R × Place Q
+abbrev pub mapped_at : {P O Q R : Type 0} → (P → Q) → (O → R) → List O × Place P → List R × Place Q
 mapped_at f g at = (map g at.0, mapped f at.1)
 
-closed_fused : {P O Q R : Type 0} (f : P → Q) (g : O → R) (stack : List O) (closed : Option P) → closing (map g stack) (option_map f closed) ≡ option_map (mapped_at f g) (closing stack closed)
+pub closed_fused : {P O Q R : Type 0} (f : P → Q) (g : O → R) (stack : List O) (closed : Option P) → closing (map g stack) (option_map f closed) ≡ option_map (mapped_at f g) (closing stack closed)
 closed_fused f g stack None = refl
 closed_fused f g stack (Some p) = refl
 
-named_fused : {P O Q R : Type 0} (a : Making P O) (b : Making Q R) (f : P → Q) (g : O → R) → IsHomomorphism a b f g → (stack : List O) (word : List ℕ) (o : Option OperatorWord)
+pub named_fused : {P O Q R : Type 0} (a : Making P O) (b : Making Q R) (f : P → Q) (g : O → R) → IsHomomorphism a b f g → (stack : List O) (word : List ℕ) (o : Option OperatorWord)
     → on (map g stack) (after_word b word o) ≡ option_map (mapped_at f g) (on stack (after_word a word o))
 named_fused a b f g h stack word (Some operator) = refl
 named_fused {P} {O} {Q} {R} a b f g h stack word None = go (is_reserved word)
@@ -46,11 +46,11 @@ named_fused {P} {O} {Q} {R} a b f g h stack word None = go (is_reserved word)
     go true = refl
     go false = ap (λ (q : Q). Some (map g stack, has q)) (sym (h.of_name word))
 
-opened_fused : {P O Q R : Type 0} (a : Making P O) (b : Making Q R) (f : P → Q) (g : O → R) → IsHomomorphism a b f g → (stack : List O) (operator : Operator)
+pub opened_fused : {P O Q R : Type 0} (a : Making P O) (b : Making Q R) (f : P → Q) (g : O → R) → IsHomomorphism a b f g → (stack : List O) (operator : Operator)
     → Some (b.opened operator ∷ map g stack, wants) ≡ option_map (mapped_at f g) (Some (a.opened operator ∷ stack, wants))
 opened_fused {P} {O} {Q} {R} a b f g h stack operator = ap (λ (r : R). Some (r ∷ map g stack, wants)) (sym (h.opened operator))
 
-step_fused : {P O Q R : Type 0} (a : Making P O) (b : Making Q R) (f : P → Q) (g : O → R) → IsHomomorphism a b f g → (stack : List O) (place : Place P) (t : Piece)
+pub step_fused : {P O Q R : Type 0} (a : Making P O) (b : Making Q R) (f : P → Q) (g : O → R) → IsHomomorphism a b f g → (stack : List O) (place : Place P) (t : Piece)
     → step_of b (map g stack) (mapped f place) t ≡ option_map (mapped_at f g) (step_of a stack place t)
 step_fused a b f g h stack wants (Word word) = named_fused a b f g h stack word (operator_of word)
 step_fused a b f g h stack (opens (plain operator)) (Mark Open) = opened_fused a b f g h stack operator
@@ -64,7 +64,7 @@ step_fused {P} {O} {Q} {R} a b f g h (o ∷ os) (has p) (Mark Close) =
     ∙ closed_fused f g os (a.closed (a.with_argument o p))
 step_fused a b f g h stack place t = refl
 
-ended_fused : {P O Q R : Type 0} (f : P → Q) (g : O → R) (stack : List O) (place : Place P) → ended_of (map g stack) (mapped f place) ≡ result_map f (ended_of stack place)
+pub ended_fused : {P O Q R : Type 0} (f : P → Q) (g : O → R) (stack : List O) (place : Place P) → ended_of (map g stack) (mapped f place) ≡ result_map f (ended_of stack place)
 ended_fused f g [] (has p) = refl
 ended_fused f g stack place = refl
 

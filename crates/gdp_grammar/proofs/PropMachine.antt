@@ -73,13 +73,13 @@ Frames = List (Operator × List NamedProp)
 abbrev pub closed_on : Frames → Option NamedProp → List Piece → Result NamedProp ReadCause
 closed_on stack closed rest = going_on (closing stack closed) (λ os next. made_of by_names os next rest)
 
-applied_again : (o : Operator) (ps : NamedProps) → takes o (argument_count ps) ≡ true → application (o, argument_list ps) ≡ Some (applied o ps)
+pub applied_again : (o : Operator) (ps : NamedProps) → takes o (argument_count ps) ≡ true → application (o, argument_list ps) ≡ Some (applied o ps)
 applied_again o ps e =
     ap (λ (n : ℕ). if takes o n then Some (applied o (arguments (argument_list ps))) else None) (list_length ps)
     ∙ ap (λ (b : Bool). if b then Some (applied o (arguments (argument_list ps))) else None) e
     ∙ ap (λ (qs : NamedProps). Some (applied o qs)) (arguments_again ps)
 
-none_taken : (o : Operator) → takes o 0 ≡ false
+pub none_taken : (o : Operator) → takes o 0 ≡ false
 none_taken negation = refl
 none_taken (pair c) = refl
 none_taken all = refl
@@ -119,7 +119,7 @@ mutual
       ∙ ap (λ (ps : List NamedProp). closed_on stack (application (o, ps)) rest) (append_assoc front (p ∷ []) (q ∷ argument_list qs))
 
 -- the word that an operator begins with
-abbrev first_word : Operator → List ℕ
+abbrev pub first_word : Operator → List ℕ
 first_word negation = codes "not"
 first_word (pair c) = pair_word c
 first_word all = codes "and"
@@ -127,11 +127,11 @@ first_word some = codes "or"
 first_word (counted c digits) = counting_word c
 
 -- an operator without a number
-abbrev is_plain : Operator → Bool
+abbrev pub is_plain : Operator → Bool
 is_plain (counted c digits) = false
 is_plain o = true
 
-plain_opening : (o : Operator) → is_plain o ≡ true → opening o ≡ Word (first_word o) ∷ Mark Open ∷ []
+pub plain_opening : (o : Operator) → is_plain o ≡ true → opening o ≡ Word (first_word o) ∷ Mark Open ∷ []
 plain_opening negation e = refl
 plain_opening (pair c) e = refl
 plain_opening all e = refl
@@ -139,19 +139,19 @@ plain_opening some e = refl
 plain_opening (counted c digits) e = absurd (cc e)
 
 -- the word is that of the operator that it begins
-abbrev Begins : List ℕ → Option OperatorWord → Type 0
+abbrev pub Begins : List ℕ → Option OperatorWord → Type 0
 Begins word None = Unit {0}
 Begins word (Some (plain o)) = (is_plain o ≡ true) × (word ≡ first_word o)
 Begins word (Some (counting c)) = word ≡ counting_word c
 
-begins_either : (word other : List ℕ) (x y : Option OperatorWord) → (word ≡ other → Begins word x) → Begins word y → Begins word (if bytes_eq word other then x else y)
+pub begins_either : (word other : List ℕ) (x y : Option OperatorWord) → (word ≡ other → Begins word x) → Begins word y → Begins word (if bytes_eq word other then x else y)
 begins_either word other x y p q = go (bytes_eq word other) (λ e. p ((bytes_eq-Decides word other).0 e))
   where
     go : (b : Bool) → (b ≡ true → Begins word x) → Begins word (if b then x else y)
     go true f = f refl
     go false f = q
 
-begins_as_told : (word : List ℕ) → Begins word (operator_of word)
+pub begins_as_told : (word : List ℕ) → Begins word (operator_of word)
 begins_as_told word =
     begins_either word (codes "not") _ _ (λ e. (refl, e))
     (begins_either word (codes "and") _ _ (λ e. (refl, e))
@@ -164,17 +164,17 @@ begins_as_told word =
     (begins_either word (codes "atmost") _ _ (λ e. e) tt))))))))
 
 -- arguments with a comma behind each
-abbrev trailing : List NamedProp → List Piece
+abbrev pub trailing : List NamedProp → List Piece
 trailing [] = []
 trailing (p ∷ ps) = pieces_of p ++ Mark Comma ∷ trailing ps
 
 -- the tokens that led to what is open
-abbrev frame_pieces : Frames → List Piece
+abbrev pub frame_pieces : Frames → List Piece
 frame_pieces [] = []
 frame_pieces (o ∷ os) = frame_pieces os ++ (opening o.0 ++ trailing o.1)
 
 -- and those that led on to the place
-abbrev place_pieces : Place NamedProp → List Piece
+abbrev pub place_pieces : Place NamedProp → List Piece
 place_pieces wants = []
 place_pieces (opens (plain o)) = Word (first_word o) ∷ []
 place_pieces (opens (counting c)) = Word (counting_word c) ∷ []
@@ -183,58 +183,58 @@ place_pieces (parts (counted c digits)) = Word (counting_word c) ∷ Mark Open �
 place_pieces (parts o) = []
 place_pieces (has p) = pieces_of p
 
-abbrev spelled : Frames → Place NamedProp → List Piece
+abbrev pub spelled : Frames → Place NamedProp → List Piece
 spelled stack place = frame_pieces stack ++ place_pieces place
 
 -- a place that reading leads to
-abbrev is_place : Place NamedProp → Bool
+abbrev pub is_place : Place NamedProp → Bool
 is_place (opens (plain o)) = is_plain o
 is_place (parts o) = not (is_plain o)
 is_place (has p) = is_formed p
 is_place place = true
 
-abbrev are_frames : Frames → Bool
+abbrev pub are_frames : Frames → Bool
 are_frames [] = true
 are_frames (o ∷ os) = are_formed (arguments o.1) && are_frames os
 
 -- reading led here by these tokens
-record Came (stack : Frames) (place : Place NamedProp) (ts : List Piece) : Type 0 where
-  frames : are_frames stack ≡ true
-  fair : is_place place ≡ true
-  spells : spelled stack place ≡ ts
+pub record Came (stack : Frames) (place : Place NamedProp) (ts : List Piece) : Type 0 where
+  pub frames : are_frames stack ≡ true
+  pub fair : is_place place ≡ true
+  pub spells : spelled stack place ≡ ts
 
-trailing_more : (ps : List NamedProp) (p : NamedProp) → trailing (ps ++ p ∷ []) ≡ trailing ps ++ (pieces_of p ++ Mark Comma ∷ [])
+pub trailing_more : (ps : List NamedProp) (p : NamedProp) → trailing (ps ++ p ∷ []) ≡ trailing ps ++ (pieces_of p ++ Mark Comma ∷ [])
 trailing_more [] p = refl
 trailing_more (q ∷ qs) p =
     ap (λ ts. pieces_of q ++ Mark Comma ∷ ts) (trailing_more qs p) ∙ sym (append_assoc (pieces_of q) (Mark Comma ∷ trailing qs) (pieces_of p ++ Mark Comma ∷ []))
 
-further_comma : (qs : List NamedProp) (p : NamedProp) → pieces_of_further (arguments (qs ++ p ∷ [])) ≡ Mark Comma ∷ pieces_of_arguments (arguments (qs ++ p ∷ []))
+pub further_comma : (qs : List NamedProp) (p : NamedProp) → pieces_of_further (arguments (qs ++ p ∷ [])) ≡ Mark Comma ∷ pieces_of_arguments (arguments (qs ++ p ∷ []))
 further_comma [] p = refl
 further_comma (q ∷ qs) p = refl
 
-parted : (ps : List NamedProp) (p : NamedProp) → pieces_of_arguments (arguments (ps ++ p ∷ [])) ≡ trailing ps ++ pieces_of p
+pub parted : (ps : List NamedProp) (p : NamedProp) → pieces_of_arguments (arguments (ps ++ p ∷ [])) ≡ trailing ps ++ pieces_of p
 parted [] p = append-nil (pieces_of p)
 parted (q ∷ qs) p =
     ap (λ ts. pieces_of q ++ ts) (further_comma qs p ∙ ap (λ ts. Mark Comma ∷ ts) (parted qs p))
     ∙ sym (append_assoc (pieces_of q) (Mark Comma ∷ trailing qs) (pieces_of p))
 
-formed_more : (ps : List NamedProp) (p : NamedProp) → are_formed (arguments ps) ≡ true → is_formed p ≡ true → are_formed (arguments (ps ++ p ∷ [])) ≡ true
+pub formed_more : (ps : List NamedProp) (p : NamedProp) → are_formed (arguments ps) ≡ true → is_formed p ≡ true → are_formed (arguments (ps ++ p ∷ [])) ≡ true
 formed_more [] p e f = and_true (is_formed p) true f refl
 formed_more (q ∷ qs) p e f =
     let h = both (is_formed q) (are_formed (arguments qs)) e in and_true (is_formed q) (are_formed (arguments (qs ++ p ∷ []))) h.0 (formed_more qs p h.1 f)
 
-count_of : (ps : List NamedProp) → argument_count (arguments ps) ≡ length ps
+pub count_of : (ps : List NamedProp) → argument_count (arguments ps) ≡ length ps
 count_of [] = refl
 count_of (p ∷ ps) = ap (λ n. suc n) (count_of ps)
 
 -- where one token led
-abbrev CameOn : List Piece → Frames × Place NamedProp → Type 0
+abbrev pub CameOn : List Piece → Frames × Place NamedProp → Type 0
 CameOn ts at = Came at.0 at.1 ts
 
-came_on : (ts : List Piece) (stack : Frames) (place : Place NamedProp) (at : Frames × Place NamedProp) → Some (stack, place) ≡ Some at → Came stack place ts → CameOn ts at
+pub came_on : (ts : List Piece) (stack : Frames) (place : Place NamedProp) (at : Frames × Place NamedProp) → Some (stack, place) ≡ Some at → Came stack place ts → CameOn ts at
 came_on ts stack place at e came = let same : (stack, place) ≡ at = cc e in subst (λ (x : Frames × Place NamedProp). CameOn ts x) same came
 
-word_came : (word : List ℕ) (stack : Frames) (before : List Piece) (o : Option OperatorWord) (at : Frames × Place NamedProp) → Begins word o → on stack (after_word by_names word o) ≡ Some at
+pub word_came : (word : List ℕ) (stack : Frames) (before : List Piece) (o : Option OperatorWord) (at : Frames × Place NamedProp) → Begins word o → on stack (after_word by_names word o) ≡ Some at
     → are_frames stack ≡ true → frame_pieces stack ≡ before → CameOn (before ++ Word word ∷ []) at
 word_came word stack before (Some (plain o)) at b e f s =
     came_on (before ++ Word word ∷ []) stack (opens (plain o)) at e
@@ -250,7 +250,7 @@ word_came word stack before None at b e f s = go (is_reserved word) refl e
         came_on (before ++ Word word ∷ []) stack (has (named word)) at e
         (record { frames = f; fair = ap not q; spells = ap (λ ts. ts ++ Word word ∷ []) s })
 
-step_came : (stack : Frames) (place : Place NamedProp) (t : Piece) (at : Frames × Place NamedProp) → step_of by_names stack place t ≡ Some at → are_frames stack ≡ true → is_place place ≡ true
+pub step_came : (stack : Frames) (place : Place NamedProp) (t : Piece) (at : Frames × Place NamedProp) → step_of by_names stack place t ≡ Some at → are_frames stack ≡ true → is_place place ≡ true
     → CameOn (spelled stack place ++ t ∷ []) at
 step_came stack wants (Word word) at e f g = word_came word stack (spelled stack wants) (operator_of word) at (begins_as_told word) e f (sym (append-nil (frame_pieces stack)))
 step_came stack (opens (plain o)) (Mark Open) at e f g =

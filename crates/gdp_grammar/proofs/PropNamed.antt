@@ -36,7 +36,7 @@ named_whole bs differ = record { differ = differ; agree = λ k h. refl }
 pub below : (k n : ℕ) → nat_lt k n ≡ true → k < n
 below k n e = grind (arith, nat_tests)
 
-number_within : (bs : List BooleanValue) (k : ℕ) → k < length bs → k < length (names_in bs)
+pub number_within : (bs : List BooleanValue) (k : ℕ) → k < length bs → k < length (names_in bs)
 number_within bs k h = omega (arith, h, length-map bs (λ (b : BooleanValue). b.0))
 
 -- the number of a Boolean by its name
@@ -47,7 +47,7 @@ number_again names bs a k h =
 pub named_name : (names : List (List ℕ)) (bs : List BooleanValue) → AreNamed names bs → (k : ℕ) → k < length bs → is_name (slice_index_or names k []) ≡ true
 named_name names bs a k h = ap is_name (a.agree k h) ∙ name_within (names_in bs) k a.differ (number_within bs k h)
 
-unreserved : (name : List ℕ) → is_name name ≡ true → not (is_reserved name) ≡ true
+pub unreserved : (name : List ℕ) → is_name name ≡ true → not (is_reserved name) ≡ true
 unfolding is_name
 unreserved name p = (both (has_name_shape name && nat_le (length name) 64) (not (has_name name reserved_words)) p).1
 
@@ -57,7 +57,7 @@ max_first a b n h = omega arith
 pub max_second : (a b n : ℕ) → max a b < n → b < n
 max_second a b n h = omega arith
 
-combined_again : (c : ListConnective) (ps : PropTrees) → number_of c < 10 ^ 64 → combined (list_operator c) ps ≡ listed c ps
+pub combined_again : (c : ListConnective) (ps : PropTrees) → number_of c < 10 ^ 64 → combined (list_operator c) ps ≡ listed c ps
 combined_again all_of ps h = refl
 combined_again some_of ps h = refl
 combined_again (exactly n) ps h = ap (λ k. listed (exactly k) ps) (decimal_value n h)
@@ -86,10 +86,10 @@ mutual
       ∙ ap (λ ts. prop p ts) (trees_again names bs a ps h.1 (max_second (greatest_number_of p) (greatest_number_within ps) (10 ^ 64) small))
 
 -- a list that is not empty is as many as an operator takes
-some_le : (n : ℕ) → nat_le 1 (suc n) ≡ true
+pub some_le : (n : ℕ) → nat_le 1 (suc n) ≡ true
 some_le n = grind (arith, nat_tests)
 
-list_taken : (c : ListConnective) (names : List (List ℕ)) (ps : PropTrees) → is_empty ps ≡ false → takes (list_operator c) (argument_count (all_named_in names ps)) ≡ true
+pub list_taken : (c : ListConnective) (names : List (List ℕ)) (ps : PropTrees) → is_empty ps ≡ false → takes (list_operator c) (argument_count (all_named_in names ps)) ≡ true
 list_taken c names no_props e = absurd (cc e)
 list_taken all_of names (prop p ps) e = some_le (argument_count (all_named_in names ps))
 list_taken some_of names (prop p ps) e = some_le (argument_count (all_named_in names ps))

@@ -15,15 +15,15 @@ use Rattle.gdp_grammar.specs.PropTexts.{Counting, exactly, at_least, at_most, Op
 use Rattle.gdp_grammar.proofs.Again.{both, and_true}
 
 -- arguments that are not one, and not two
-more_than_one : (n : ℕ) → (suc (suc n) == 1) ≡ false
+pub more_than_one : (n : ℕ) → (suc (suc n) == 1) ≡ false
 more_than_one n = grind (arith, nat_tests)
 
-more_than_two : (n : ℕ) → (suc (suc (suc n)) == 2) ≡ false
+pub more_than_two : (n : ℕ) → (suc (suc (suc n)) == 2) ≡ false
 more_than_two n = grind (arith, nat_tests)
 
 -- What an operator makes of as many trees as it takes: `not` of one, an operator of two of two, and any other of a list
 -- that is not empty.
-by_shape : (P : Operator → PropTrees → PropTree → Type 0) → ((p : PropTree) → P negation (prop p no_props) (negated p)) → ((c : PairConnective) (p q : PropTree) → P (pair c) (prop p (prop q no_props)) (paired c p q))
+pub by_shape : (P : Operator → PropTrees → PropTree → Type 0) → ((p : PropTree) → P negation (prop p no_props) (negated p)) → ((c : PairConnective) (p q : PropTree) → P (pair c) (prop p (prop q no_props)) (paired c p q))
     → ((o : Operator) (c : ListConnective) (p : PropTree) (ps : PropTrees) → number_of c ≡ number_in o → P o (prop p ps) (listed c (prop p ps)))
     → (o : Operator) (ts : PropTrees) → takes o (prop_count ts) ≡ true → P o ts (combined o ts)
 by_shape P one two more negation no_props e = absurd (cc e)
@@ -50,34 +50,34 @@ trees_count bs no_arguments = refl
 trees_count bs (argument p ps) = ap (λ n. suc n) (trees_count bs ps)
 
 -- as many trees as arguments
-as_many : (bs : List BooleanValue) (o : Operator) (ps : NamedProps) → takes o (argument_count ps) ≡ true → takes o (prop_count (trees_in bs ps)) ≡ true
+pub as_many : (bs : List BooleanValue) (o : Operator) (ps : NamedProps) → takes o (argument_count ps) ≡ true → takes o (prop_count (trees_in bs ps)) ≡ true
 as_many bs o ps e = ap (takes o) (trees_count bs ps) ∙ e
 
-or_none : (a : Bool) → a ≡ (a || false)
+pub or_none : (a : Bool) → a ≡ (a || false)
 or_none true = refl
 or_none false = refl
 
-and_all : (a : Bool) → a ≡ (a && true)
+pub and_all : (a : Bool) → a ≡ (a && true)
 and_all true = refl
 and_all false = refl
 
 -- the sizes of what an operator makes
-depth_combined : (o : Operator) (ts : PropTrees) → takes o (prop_count ts) ≡ true → depth_of (combined o ts) ≡ 1 + depth_within ts
+pub depth_combined : (o : Operator) (ts : PropTrees) → takes o (prop_count ts) ≡ true → depth_of (combined o ts) ≡ 1 + depth_within ts
 depth_combined = by_shape (λ o ts t. depth_of t ≡ 1 + depth_within ts) (λ p. omega arith) (λ c p q. omega arith) (λ o c p ps e. refl)
 
-nodes_combined : (o : Operator) (ts : PropTrees) → takes o (prop_count ts) ≡ true → node_count_of (combined o ts) ≡ 1 + node_count_within ts
+pub nodes_combined : (o : Operator) (ts : PropTrees) → takes o (prop_count ts) ≡ true → node_count_of (combined o ts) ≡ 1 + node_count_within ts
 nodes_combined = by_shape (λ o ts t. node_count_of t ≡ 1 + node_count_within ts) (λ p. omega arith) (λ c p q. omega arith) (λ o c p ps e. refl)
 
-most_combined : (o : Operator) (ts : PropTrees) → takes o (prop_count ts) ≡ true → most_arguments_of (combined o ts) ≡ max (prop_count ts) (most_arguments_within ts)
+pub most_combined : (o : Operator) (ts : PropTrees) → takes o (prop_count ts) ≡ true → most_arguments_of (combined o ts) ≡ max (prop_count ts) (most_arguments_within ts)
 most_combined = by_shape (λ o ts t. most_arguments_of t ≡ max (prop_count ts) (most_arguments_within ts)) (λ p. omega arith) (λ c p q. omega arith) (λ o c p ps e. refl)
 
-greatest_combined : (o : Operator) (ts : PropTrees) → takes o (prop_count ts) ≡ true → greatest_number_of (combined o ts) ≡ max (number_in o) (greatest_number_within ts)
+pub greatest_combined : (o : Operator) (ts : PropTrees) → takes o (prop_count ts) ≡ true → greatest_number_of (combined o ts) ≡ max (number_in o) (greatest_number_within ts)
 greatest_combined = by_shape (λ o ts t. greatest_number_of t ≡ max (number_in o) (greatest_number_within ts)) (λ p. omega arith) (λ c p q. omega arith) (λ o c p ps e. ap (λ n. max n (greatest_number_within (prop p ps))) e)
 
-empty_combined : (o : Operator) (ts : PropTrees) → takes o (prop_count ts) ≡ true → has_empty_list_of (combined o ts) ≡ has_empty_list_within ts
+pub empty_combined : (o : Operator) (ts : PropTrees) → takes o (prop_count ts) ≡ true → has_empty_list_of (combined o ts) ≡ has_empty_list_within ts
 empty_combined = by_shape (λ o ts t. has_empty_list_of t ≡ has_empty_list_within ts) (λ p. or_none (has_empty_list_of p)) (λ c p q. ap (λ b. has_empty_list_of p || b) (or_none (has_empty_list_of q))) (λ o c p ps e. refl)
 
-below_combined : (n : ℕ) (o : Operator) (ts : PropTrees) → takes o (prop_count ts) ≡ true → are_ids_below n (combined o ts) ≡ are_all_ids_below n ts
+pub below_combined : (n : ℕ) (o : Operator) (ts : PropTrees) → takes o (prop_count ts) ≡ true → are_ids_below n (combined o ts) ≡ are_all_ids_below n ts
 below_combined n = by_shape (λ o ts t. are_ids_below n t ≡ are_all_ids_below n ts) (λ p. and_all (are_ids_below n p)) (λ c p q. ap (λ b. are_ids_below n p && b) (and_all (are_ids_below n q))) (λ o c p ps e. refl)
 
 -- the tree is as deep
@@ -142,14 +142,14 @@ mutual
       let h = both (is_formed p) (are_formed ps) e in ap (λ b. b || has_empty_list_within (trees_in bs ps)) (none_empty bs p h.0) ∙ none_empty_within bs ps h.1
 
 -- a place that is found is one of the list
-place_below : (k n : ℕ) → is_some (cond (nat_lt k n) (Some k) None) ≡ true → nat_lt (unwrap_or (cond (nat_lt k n) (Some k) None) 0) n ≡ true
+pub place_below : (k n : ℕ) → is_some (cond (nat_lt k n) (Some k) None) ≡ true → nat_lt (unwrap_or (cond (nat_lt k n) (Some k) None) 0) n ≡ true
 place_below k n e = go (nat_lt k n) refl e
   where
     go : (b : Bool) → nat_lt k n ≡ b → is_some (cond b (Some k) None) ≡ true → nat_lt (unwrap_or (cond b (Some k) None) 0) n ≡ true
     go true q e = q
     go false q e = absurd (cc e)
 
-number_below : (bs : List BooleanValue) (name : List ℕ) → is_some (boolean_number bs name) ≡ true → nat_lt (unwrap_or (boolean_number bs name) 0) (length bs) ≡ true
+pub number_below : (bs : List BooleanValue) (name : List ℕ) → is_some (boolean_number bs name) ≡ true → nat_lt (unwrap_or (boolean_number bs name) 0) (length bs) ≡ true
 number_below bs name e =
     let names : List (List ℕ) = map (λ (b : BooleanValue). b.0) bs in
     ap (λ n. nat_lt (unwrap_or (boolean_number bs name) 0) n) (sym (length-map bs (λ (b : BooleanValue). b.0))) ∙ place_below (prefix_len (λ x. not (bytes_eq name x)) names) (length names) e
