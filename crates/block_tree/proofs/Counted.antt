@@ -1,25 +1,18 @@
 -- How many items there are: as many as conditions, and few in a model.
-use Rattle.std.proofs.Common.{◌≡◌, ℕ, suc, ◌+◌, ◌-◌, ◌<◌, ◌≤◌, Bool, true, false, ◌&&◌, ◌==◌, List, [], ◌∷◌, ◌++◌, map, length, drop, get_or, nat_lt, nat_eq, Option, Some, refl, ap, sym, ◌∙◌, arith, add-one, drop-cons}
+use Rattle.std.proofs.Common.{◌≡◌, ℕ, suc, ◌+◌, ◌<◌, ◌≤◌, true, ◌&&◌, ◌==◌, List, [], ◌∷◌, map, length, drop, get_or, nat_lt, Option, Some, refl, arith, add-one, drop-cons}
 use Rattle.std.proofs.lemmas.Bool.Decides.{nat_tests}
 use Rattle.std.proofs.lemmas.List.{length-map, length-append}
 use Rattle.propositions.specs.Sizes.{node_count_of}
 use Rattle.propositions.specs.Tree.{PropTree, atom, negated, paired, listed}
 use Rattle.block_tree.specs.declared.tree.Disjunct.{Disjunct}
 use Rattle.block_tree.specs.declared.tree.Disjunction.{Disjunction}
-use Rattle.block_tree.specs.Items.{enforced, choice, conditions_in, conditions_of_disjunctions, conditions_of_disjuncts}
+use Rattle.block_tree.specs.Items.{enforced, conditions_in, conditions_of_disjunctions, conditions_of_disjuncts}
 use Rattle.block_tree.specs.Picking.{item_total, item_total_below, item_total_within}
 use Rattle.block_tree.specs.Sound.{are_rows_below, are_props_sound, is_filled, is_block_sound, are_disjunctions_sound, are_disjuncts_sound, are_last_of, IsSound}
 use Rattle.block_tree.specs.Tree.{DisjunctHead, BlockTree, block, Disjunctions, no_disjunctions, disjunction, Disjuncts, no_disjuncts, disjunct, nodes_of_props, node_total, node_total_below, node_total_within, below, below_disjunctions, below_disjuncts}
 use Rattle.block_tree.specs.Values.{ModelTree}
 use Rattle.block_tree.specs.View.{disjunction_of, disjunct_of, disjunctions_of, disjuncts_of}
-
-first_of : (a b : Bool) → (a && b) ≡ true → a ≡ true
-first_of true b h = refl
-first_of false b h = h
-
-second_of : (a b : Bool) → (a && b) ≡ true → b ≡ true
-second_of true b h = h
-second_of false b h = cc
+use Rattle.block_tree.proofs.Ands.{first_holds, second_holds}
 
 mutual
   pub block_counted : (y : Option ℕ) (b : BlockTree) → length (conditions_in y b) ≡ item_total b
@@ -65,7 +58,7 @@ one_is_filled (disjunct head b js) h = refl
 mutual
   few_in : (n m : ℕ) (b : BlockTree) → is_block_sound n m b ≡ true → item_total b ≤ node_total b + length (below b)
   few_in n m (block items ds) h =
-      let k = second_of (are_props_sound m items.props) (are_disjunctions_sound n m ds) (second_of (are_rows_below n items.rows) (are_props_sound m items.props && are_disjunctions_sound n m ds) h) in
+      let k = second_holds (are_props_sound m items.props) (are_disjunctions_sound n m ds) (second_holds (are_rows_below n items.rows) (are_props_sound m items.props && are_disjunctions_sound n m ds) h) in
       let a = few_props items.props in
       let c = few_below n m ds k in
       omega (arith, a, c)
@@ -73,10 +66,10 @@ mutual
   few_below : (n m : ℕ) (ds : Disjunctions) → are_disjunctions_sound n m ds ≡ true → item_total_below ds ≤ node_total_below ds + length (below_disjunctions ds)
   few_below n m no_disjunctions h = omega arith
   few_below n m (disjunction head js ds) h =
-      let k = first_of (is_filled js && are_disjuncts_sound n m js) (are_disjunctions_sound n m ds) h in
-      let o = one_is_filled js (first_of (is_filled js) (are_disjuncts_sound n m js) k) in
-      let a = few_within n m js (second_of (is_filled js) (are_disjuncts_sound n m js) k) in
-      let c = few_below n m ds (second_of (is_filled js && are_disjuncts_sound n m js) (are_disjunctions_sound n m ds) h) in
+      let k = first_holds (is_filled js && are_disjuncts_sound n m js) (are_disjunctions_sound n m ds) h in
+      let o = one_is_filled js (first_holds (is_filled js) (are_disjuncts_sound n m js) k) in
+      let a = few_within n m js (second_holds (is_filled js) (are_disjuncts_sound n m js) k) in
+      let c = few_below n m ds (second_holds (is_filled js && are_disjuncts_sound n m js) (are_disjunctions_sound n m ds) h) in
       let l = length-append (below_disjuncts js) (below_disjunctions ds) in
       omega (arith, o, a, c, l)
 
@@ -84,16 +77,16 @@ mutual
       → item_total_within js + one_if_filled js ≤ node_total_within js + length (below_disjuncts js)
   few_within n m no_disjuncts h = omega arith
   few_within n m (disjunct head b js) h =
-      let k = first_of (nat_lt head.indicator m && is_block_sound n m b) (are_disjuncts_sound n m js) h in
-      let a = few_in n m b (second_of (nat_lt head.indicator m) (is_block_sound n m b) k) in
-      let c = few_within n m js (second_of (nat_lt head.indicator m && is_block_sound n m b) (are_disjuncts_sound n m js) h) in
+      let k = first_holds (nat_lt head.indicator m && is_block_sound n m b) (are_disjuncts_sound n m js) h in
+      let a = few_in n m b (second_holds (nat_lt head.indicator m) (is_block_sound n m b) k) in
+      let c = few_within n m js (second_holds (nat_lt head.indicator m && is_block_sound n m b) (are_disjuncts_sound n m js) h) in
       let l = length-append (below b) (below_disjuncts js) in
       omega (arith, a, c, l)
 
 last_are_few : (m : ℕ) (heads : List DisjunctHead) → are_last_of m heads ≡ true → length heads ≤ m
 last_are_few m [] h = omega arith
 last_are_few m (head ∷ heads) h =
-    let e = first_of (head.indicator + suc (length heads) == m) (are_last_of m heads) h in
+    let e = first_holds (head.indicator + suc (length heads) == m) (are_last_of m heads) h in
     grind (arith, nat_tests)
 
 pub few_items : (m : ModelTree) → IsSound m → item_total m.root ≤ 5200

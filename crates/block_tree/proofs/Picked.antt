@@ -1,23 +1,22 @@
 -- The reading at a place of lists that stand one after another.
-use Rattle.std.proofs.Common.{◌≡◌, ℕ, zero, suc, ◌+◌, ◌-◌, ◌<◌, ◌≤◌, Bool, true, false, ◌&&◌, List, [], ◌∷◌, ◌++◌, map, length, drop, get_or, slice_index_or, nat_lt, Option, Some, Result, Ok, Err, refl, ap, sym, ◌∙◌, arith, add-one, drop-cons}
+use Rattle.std.proofs.Common.{◌≡◌, ℕ, zero, suc, ◌+◌, ◌<◌, true, ◌&&◌, List, [], ◌∷◌, ◌++◌, map, length, drop, get_or, slice_index_or, nat_lt, Option, Some, Result, Ok, Err, refl, ap, sym, ◌∙◌, arith, add-one, drop-cons}
 use Rattle.std.proofs.lemmas.List.{map-append}
 use Rattle.gdp_tables.specs.declared.tri.Tri.{Tri}
-use Rattle.gdp_tables.specs.declared.tri.Tri.TheVariants.{No, Yes, Open}
-use Rattle.gdp_tables.specs.Readings.{not_of, and_of, or_of}
 use Rattle.propositions.proofs.Connectives.{and_assoc, yes_and, and_yes}
 use Rattle.propositions.specs.declared.tree.Prop.{Prop}
-use Rattle.propositions.specs.Reading.{tri_of, tris_of, and_all}
+use Rattle.propositions.specs.Reading.{tri_of}
 use Rattle.propositions.specs.Tree.{PropTree}
 use Rattle.propositions.specs.Truth.{are_ids_below}
 use Rattle.propositions.specs.View.{prop_tree}
 use Rattle.block_tree.specs.declared.tree.Disjunct.{Disjunct}
 use Rattle.block_tree.specs.declared.tree.Disjunction.{Disjunction}
-use Rattle.block_tree.specs.Items.{enforced, choice, each_implies, indicators_of, conditions_in, conditions_of_disjunctions, conditions_of_disjuncts}
+use Rattle.block_tree.specs.Items.{enforced, choice, conditions_in, conditions_of_disjunctions, conditions_of_disjuncts}
 use Rattle.block_tree.specs.Picking.{readings, reading_at, are_props_below, is_block_below, are_disjunctions_below, are_disjuncts_below}
 use Rattle.block_tree.specs.Props.{is_prop_sound, has_small_numbers, is_shallow_prop, has_fair_lists}
 use Rattle.block_tree.specs.Sound.{are_rows_below, are_props_sound, is_filled, is_block_sound, are_disjunctions_sound, are_disjuncts_sound}
 use Rattle.block_tree.specs.Tree.{BlockTree, block, Disjunctions, no_disjunctions, disjunction, Disjuncts, no_disjuncts, disjunct}
 use Rattle.block_tree.specs.View.{DisjunctTree, DisjunctionTree, disjunction_of, disjunct_of, disjunctions_of, disjuncts_of, props_of, props_in, disjunctions_in}
+use Rattle.block_tree.proofs.Ands.{first_holds, second_holds, both_hold}
 
 -- the answer where it is found, else what is found from the rest of the place on
 abbrev pub or_else : Result Tri ℕ → (ℕ → Result Tri ℕ) → Result Tri ℕ
@@ -132,45 +131,34 @@ only_found t u r h k = let e = h ∙ k in cc
 pub never_passed : (m : ℕ) (t u : Tri) (r : Result Tri ℕ) → Err m ≡ r → r ≡ Ok u → t ≡ u
 never_passed m t u r h k = let e = h ∙ k in cc
 
-both : (a b : Bool) → a ≡ true → b ≡ true → (a && b) ≡ true
-both a b h k = rw h k
-
-first_of_two : (a b : Bool) → (a && b) ≡ true → a ≡ true
-first_of_two true b h = refl
-first_of_two false b h = h
-
-second_of_two : (a b : Bool) → (a && b) ≡ true → b ≡ true
-second_of_two true b h = h
-second_of_two false b h = cc
-
 -- propositions that keep the limits name only Booleans that there are
 props_below : (m : ℕ) (qs : List (PropTree × ℕ)) → are_props_sound m qs ≡ true → are_props_below m qs ≡ true
 props_below m [] h = refl
 props_below m (q ∷ qs) h =
-    both (are_ids_below m q.0) (are_props_below m qs)
-    (first_of_two (are_ids_below m q.0) (has_small_numbers q.0 && (is_shallow_prop q.0 && has_fair_lists q.0)) (first_of_two (is_prop_sound m q.0) (are_props_sound m qs) h))
-    (props_below m qs (second_of_two (is_prop_sound m q.0) (are_props_sound m qs) h))
+    both_hold (are_ids_below m q.0) (are_props_below m qs)
+    (first_holds (are_ids_below m q.0) (has_small_numbers q.0 && (is_shallow_prop q.0 && has_fair_lists q.0)) (first_holds (is_prop_sound m q.0) (are_props_sound m qs) h))
+    (props_below m qs (second_holds (is_prop_sound m q.0) (are_props_sound m qs) h))
 
 mutual
   pub block_below : (n m : ℕ) (b : BlockTree) → is_block_sound n m b ≡ true → is_block_below m b ≡ true
   block_below n m (block items ds) h =
-      let k = second_of_two (are_rows_below n items.rows) (are_props_sound m items.props && are_disjunctions_sound n m ds) h in
-      both (are_props_below m items.props) (are_disjunctions_below m ds)
-      (props_below m items.props (first_of_two (are_props_sound m items.props) (are_disjunctions_sound n m ds) k))
-      (disjunctions_below n m ds (second_of_two (are_props_sound m items.props) (are_disjunctions_sound n m ds) k))
+      let k = second_holds (are_rows_below n items.rows) (are_props_sound m items.props && are_disjunctions_sound n m ds) h in
+      both_hold (are_props_below m items.props) (are_disjunctions_below m ds)
+      (props_below m items.props (first_holds (are_props_sound m items.props) (are_disjunctions_sound n m ds) k))
+      (disjunctions_below n m ds (second_holds (are_props_sound m items.props) (are_disjunctions_sound n m ds) k))
 
   pub disjunctions_below : (n m : ℕ) (ds : Disjunctions) → are_disjunctions_sound n m ds ≡ true → are_disjunctions_below m ds ≡ true
   disjunctions_below n m no_disjunctions h = refl
   disjunctions_below n m (disjunction head js ds) h =
-      let k = first_of_two (is_filled js && are_disjuncts_sound n m js) (are_disjunctions_sound n m ds) h in
-      both (are_disjuncts_below m js) (are_disjunctions_below m ds)
-      (disjuncts_below n m js (second_of_two (is_filled js) (are_disjuncts_sound n m js) k))
-      (disjunctions_below n m ds (second_of_two (is_filled js && are_disjuncts_sound n m js) (are_disjunctions_sound n m ds) h))
+      let k = first_holds (is_filled js && are_disjuncts_sound n m js) (are_disjunctions_sound n m ds) h in
+      both_hold (are_disjuncts_below m js) (are_disjunctions_below m ds)
+      (disjuncts_below n m js (second_holds (is_filled js) (are_disjuncts_sound n m js) k))
+      (disjunctions_below n m ds (second_holds (is_filled js && are_disjuncts_sound n m js) (are_disjunctions_sound n m ds) h))
 
   pub disjuncts_below : (n m : ℕ) (js : Disjuncts) → are_disjuncts_sound n m js ≡ true → are_disjuncts_below m js ≡ true
   disjuncts_below n m no_disjuncts h = refl
   disjuncts_below n m (disjunct head b js) h =
-      let k = first_of_two (nat_lt head.indicator m && is_block_sound n m b) (are_disjuncts_sound n m js) h in
-      both (is_block_below m b) (are_disjuncts_below m js)
-      (block_below n m b (second_of_two (nat_lt head.indicator m) (is_block_sound n m b) k))
-      (disjuncts_below n m js (second_of_two (nat_lt head.indicator m && is_block_sound n m b) (are_disjuncts_sound n m js) h))
+      let k = first_holds (nat_lt head.indicator m && is_block_sound n m b) (are_disjuncts_sound n m js) h in
+      both_hold (is_block_below m b) (are_disjuncts_below m js)
+      (block_below n m b (second_holds (nat_lt head.indicator m) (is_block_sound n m b) k))
+      (disjuncts_below n m js (second_holds (nat_lt head.indicator m && is_block_sound n m b) (are_disjuncts_sound n m js) h))

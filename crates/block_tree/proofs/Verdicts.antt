@@ -16,6 +16,7 @@ use Rattle.block_tree.specs.Tree.{below, below_disjunctions, below_disjuncts}
 use Rattle.block_tree.specs.Tests.{Test, passes, fails, is_wide, verdict_of, tests_of_var, tests_of_vars, test_of_prop, test_of_off, tests_of_disjunctions, tests_of_disjuncts, tests_of_disjunction, tests_of_disjunct}
 use Rattle.block_tree.specs.Variables.{VarValue}
 use Rattle.block_tree.specs.View.{disjunction_of, disjunct_of, disjunctions_of, disjuncts_of, props_of}
+use Rattle.block_tree.proofs.Ands.{second_holds}
 
 -- the first verdict where it decides, else the second
 abbrev pub first_of : Result Verdict SumWide → Result Verdict SumWide → Result Verdict SumWide
@@ -46,10 +47,6 @@ pub vars_at : (vs : List VarValue) (i : ℕ) (v : VarValue) (nums : ℕ → ℤ)
 vars_at vs i v nums over h e =
     rw (drop-cons vs i v, ← e, add-one) (verdict-append (tests_of_var v (nums i) over) (tests_of_vars (drop (suc i) vs) (suc i) nums over))
 
-and_second : (a b : Bool) → (a && b) ≡ true → b ≡ true
-and_second true b h = h
-and_second false b h = cc
-
 pub not_refused : (a : Bool) → not a ≡ false → a ≡ true
 not_refused true h = refl
 not_refused false h = sym h
@@ -63,7 +60,7 @@ pub props_sound_at : (qs : List (Prop × ℕ)) (i : ℕ) (q : Prop × ℕ) (m : 
     → are_props_sound m (props_of (drop i qs)) ≡ true → are_props_sound m (props_of (drop (i + 1) qs)) ≡ true
 props_sound_at qs i q m h e s =
     let s1 = rw (drop-cons qs i q, ← e) at s in
-    rw add-one (and_second (is_prop_sound m (prop_tree q.0)) (are_props_sound m (props_of (drop (suc i) qs))) s1)
+    rw add-one (second_holds (is_prop_sound m (prop_tree q.0)) (are_props_sound m (props_of (drop (suc i) qs))) s1)
 
 pub disjunctions_at : (ds : List Disjunction) (i : ℕ) (d : Disjunction) (p : PointOf) → i < length ds → d ≡ get_or ds i d
     → verdict_of (tests_of_disjunctions (disjunctions_of (drop i ds)) p)

@@ -1,7 +1,7 @@
-use Rattle.std.proofs.Common.{slice_index_or, length, ap, sym, ◌∙◌}
+use Rattle.std.proofs.Common.{slice_index_or, length}
 use Rattle.gdp_tables.specs.declared.tri.Tri.TheVariants.{No}
 use Rattle.propositions.specs.Tree.{atom}
-use Rattle.block_tree.specs.Items.{conditions, condition_of}
+use Rattle.block_tree.specs.Items.{conditions}
 use Rattle.block_tree.specs.Values.{model_tree}
 use Rattle.block_tree.proofs.Picked.{reading_within, only_found, never_passed, block_below}
 use Rattle.block_tree.proofs.items.read_item.Goals as goal
