@@ -4,6 +4,7 @@ use Rattle.std.proofs.lemmas.Bool.{cond-true, cond-false}
 use Rattle.std.proofs.lemmas.Bool.Decides.{nat_tests}
 use Rattle.std.proofs.lemmas.List.{append-nil}
 use Rattle.lp_rows.specs.Rows.{RowValue}
+use Rattle.propositions.specs.Tree.{PropTree}
 use Rattle.block_tree.specs.Tree.{BlockTree, block, Disjunctions, no_disjunctions, disjunction, Disjuncts, no_disjuncts, disjunct}
 use Rattle.block_tree.specs.View.{DisjunctTree, DisjunctionTree, disjuncts, disjunctions}
 use Rattle.gdp_grammar.specs.Nested.{row_marks, prop_marks, disjunction_marks, disjunct_marks}

@@ -104,7 +104,7 @@ few_enough n k h = grind (arith, nat_tests)
 
 -- a sound proposition is not refused where its names are known and there is room
 not_refused : (p : PropTree) (b : BuildingValue) → b.opened ≡ None → are_ids_below (length b.booleans) p ≡ true → KeepsLimits p → nodes_so_far b + node_count_of p ≤ 5000 → refusal_of_prop p b ≡ None
-not_refused p b closed ids keeps few = rw (closed, ids, keeps.numbers, keeps.shallow, keeps.lists, few_enough (nodes_so_far b) (node_count_of p) few) refl
+not_refused p b closed ids keeps few = rw (few_enough (nodes_so_far b) (node_count_of p) few, closed, ids, keeps.numbers, keeps.shallow, keeps.lists) refl
 
 -- one proposition leads on
 logic_lead : (m : ModelTree) (vs : List VarValue) (g : Option GoalValue) (bs : List BooleanValue) (o : OpenBlock) (os : List (OpenBlock × OpenDisjunction)) (line : ℕ) (q : PropTree × ℕ) → AreNamed (boolean_names m) bs
