@@ -1,8 +1,6 @@
 //! Values reckoned by hand: the conditions of a model's items, and the point test of propositions.
 
-use crate::{
-    Bound, Mode, Model, ModelBuilder, SumWide, Verdict, item_count, item_tri, satisfies,
-};
+use crate::{Bound, Mode, Model, ModelBuilder, SumWide, Verdict, item_count, item_tri, satisfies};
 use fractions::Memory;
 use gdp_tables::Tri;
 use lp_rows::{Kind, Point};
@@ -102,11 +100,16 @@ fn verdict(
 }
 
 #[test]
-fn a_proposition_is_tested_before_the_disjunctions_of_its_block(rt: HostRuntime) -> Result<(), Fail> {
+fn a_proposition_is_tested_before_the_disjunctions_of_its_block(
+    rt: HostRuntime,
+) -> Result<(), Fail> {
     let alloc = rt.alloc();
     let model = model(alloc)?;
     let table = [
-        ([true, false, false, false, false, false], Verdict::FailsAt(4)),
+        (
+            [true, false, false, false, false, false],
+            Verdict::FailsAt(4),
+        ),
         ([false, true, true, true, true, false], Verdict::FailsAt(7)),
         ([true, true, true, true, true, false], Verdict::FailsAt(8)),
         ([true, true, true, true, false, false], Verdict::Holds),

@@ -157,12 +157,7 @@ fn known_of(truths: &[Tri], number: u32) -> Tri
 // The reading at this place among the items of the block, or how far the place lies past them.
 #[cycle(items)]
 #[tactic(auto, using(crate::proofs::Picked::picked))]
-fn find_in_block(
-    block: &Block,
-    under: Option<u32>,
-    place: u32,
-    truths: &[Tri],
-) -> Result<Tri, u32>
+fn find_in_block(block: &Block, under: Option<u32>, place: u32, truths: &[Tri]) -> Result<Tri, u32>
     requires { is_block_below (length truths.now) (block_of block.now) ≡ true }
     ensures { result ≡ reading_at (readings (λ k. slice_index_or truths.now k No) (conditions_in under (block_of block.now))) place }
 {
@@ -205,7 +200,7 @@ fn find_in_disjunction(
     requires { are_disjuncts_below (length truths.now) (disjunction_of disjunction.now).1 ≡ true }
     ensures { result ≡ reading_at (readings (λ k. slice_index_or truths.now k No)
         (choice under (disjunction_of disjunction.now).0.mode (disjunction_of disjunction.now).1
-            ∷ conditions_of_disjuncts (disjunction_of disjunction.now).1)) place }
+        ∷ conditions_of_disjuncts (disjunction_of disjunction.now).1)) place }
 {
     if place == 0 {
         return Ok(choice_tri(disjunction, under, truths));
