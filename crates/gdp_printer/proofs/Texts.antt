@@ -2,11 +2,12 @@
 use Rattle.std.proofs.Common.{◌≡◌, ◌≢◌, ℕ, zero, suc, ◌+◌, ℤ, pos, negsuc, false, ◌==◌, List, [], ◌∷◌, ◌++◌, map, codes, append_assoc, append-nil, Result, Ok, Err, OnOk, refl, ap, sym, ◌∙◌, arith}
 use Rattle.std.proofs.lemmas.Bool.Decides.{nat_tests}
 use Rattle.lp_rows.specs.Rows.{RowValue}
+use Rattle.propositions.specs.Tree.{PropTree}
 use Rattle.block_tree.specs.declared.tree.Mode.{Mode}
 use Rattle.block_tree.specs.Tree.{BlockTree, Disjunctions, Disjuncts}
 use Rattle.block_tree.specs.Values.{ModelTree}
-use Rattle.block_tree.specs.View.{DisjunctTree, DisjunctionTree, rows_in, disjunctions_in}
-use Rattle.gdp_grammar.specs.Canonical.{text_of, row_line, block_lines, disjunctions_lines, disjuncts_lines, disjunction_line, disjunct_line, lines_of_disjunction, lines_of_disjunct, spaced, line_of, number_word, sign_word, size_word, name_in, sum_words, terms_over, goal_words, constant_words, var_line, boolean_line, goal_line, free_booleans, canonical_lines}
+use Rattle.block_tree.specs.View.{DisjunctTree, DisjunctionTree, rows_in, props_in, disjunctions_in}
+use Rattle.gdp_grammar.specs.Canonical.{text_of, row_line, logic_line, block_lines, disjunctions_lines, disjuncts_lines, disjunction_line, disjunct_line, lines_of_disjunction, lines_of_disjunct, spaced, line_of, number_word, sign_word, size_word, name_in, sum_words, terms_over, goal_words, constant_words, var_line, boolean_line, goal_line, free_booleans, canonical_lines}
 use Rattle.gdp_grammar.specs.Lowest.{over}
 use Rattle.gdp_grammar.proofs.Printed.{block_text, framed_text, spaced_appended, model_text}
 use Rattle.std.specs.Prelude.{unsigned_abs}
@@ -91,14 +92,20 @@ model_put m tree bs old a b c d e same free p q r s t =
     (append_assoc (head ++ vars ++ booleans) goal root ∙ append_assoc (head ++ vars) booleans (goal ++ root) ∙ append_assoc head vars (booleans ++ (goal ++ root))
     ∙ ap (λ x. head ++ (vars ++ (booleans ++ x))) (append_assoc (goal_line m) (10 ∷ []) root) ∙ sym (model_text m))
 
-pub block_put : (m : ModelTree) (tree : BlockTree) (rows : List (RowValue × ℕ)) (ds : Disjunctions) (old a b : List ℕ)
-    → rows ≡ rows_in tree → ds ≡ disjunctions_in tree
-    → a ≡ old ++ text_of (map (row_line m) rows) → b ≡ a ++ text_of (disjunctions_lines m ds)
-    → b ≡ old ++ text_of (block_lines m tree)
-block_put m tree rows ds old a b r d e f =
-    appended old a b (text_of (map (row_line m) rows)) (text_of (disjunctions_lines m ds)) e f
-    ∙ ap (λ x. old ++ (text_of (map (row_line m) x) ++ text_of (disjunctions_lines m ds))) r
-    ∙ ap (λ x. old ++ (text_of (map (row_line m) (rows_in tree)) ++ text_of (disjunctions_lines m x))) d
+pub block_put : (m : ModelTree) (tree : BlockTree) (rows : List (RowValue × ℕ)) (ds : Disjunctions) (qs : List (PropTree × ℕ)) (old a b c : List ℕ)
+    → rows ≡ rows_in tree → ds ≡ disjunctions_in tree → qs ≡ props_in tree
+    → a ≡ old ++ text_of (map (row_line m) rows) → b ≡ a ++ text_of (disjunctions_lines m ds) → c ≡ b ++ text_of (map (logic_line m) qs)
+    → c ≡ old ++ text_of (block_lines m tree)
+block_put m tree rows ds qs old a b c r d q e f g =
+    let first : List ℕ = text_of (map (row_line m) rows) in
+    let second : List ℕ = text_of (disjunctions_lines m ds) in
+    let third : List ℕ = text_of (map (logic_line m) qs) in
+    let two : b ≡ old ++ (first ++ second) = appended old a b first second e f in
+    appended old b c (first ++ second) third two g
+    ∙ ap (λ t. old ++ t) (append_assoc first second third)
+    ∙ ap (λ x. old ++ (text_of (map (row_line m) x) ++ (second ++ third))) r
+    ∙ ap (λ x. old ++ (text_of (map (row_line m) (rows_in tree)) ++ (text_of (disjunctions_lines m x) ++ third))) d
+    ∙ ap (λ x. old ++ (text_of (map (row_line m) (rows_in tree)) ++ (text_of (disjunctions_lines m (disjunctions_in tree)) ++ text_of (map (logic_line m) x)))) q
     ∙ ap (λ t. old ++ t) (sym (block_text m tree))
 
 -- a line, the lines below it, and an end

@@ -2,7 +2,7 @@
 
 ghost use Rattle.std.specs.Prelude.{◌≡◌, ◌∷◌, [], ◌++◌, OnOk, true, codes, map};
 ghost use Rattle.block_tree.specs.Values.{model_tree};
-ghost use Rattle.block_tree.specs.View.{block_of, disjunct_of, disjunction_of, disjuncts_of, disjunctions_of};
+ghost use Rattle.block_tree.specs.View.{block_of, disjunct_of, disjunction_of, disjuncts_of, disjunctions_of, props_of};
 ghost use Rattle.gdp_grammar.specs.CanonicalLaws.{
   are_rows_stored,
   is_stored,
@@ -12,6 +12,7 @@ ghost use Rattle.gdp_grammar.specs.CanonicalLaws.{
 ghost use Rattle.gdp_grammar.specs.Canonical.{
   text_of,
   row_line,
+  logic_line,
   block_lines,
   disjunctions_lines,
   disjuncts_lines,
@@ -20,10 +21,12 @@ ghost use Rattle.gdp_grammar.specs.Canonical.{
 };
 
 use crate::lines::{put_disjunct_line, put_disjunction_line, put_end_line, put_row};
+use crate::props::put_prop_line;
 use block_tree::{Block, Disjunct, Disjunction, Model};
 use fractions::Memory;
 use gdp_io::Text;
 use lp_rows::Row;
+use propositions::Prop;
 use std::alloc::Global;
 
 // The rows of a block.
@@ -42,7 +45,22 @@ fn put_rows(
     Ok(())
 }
 
-/// A block: its rows, and then its disjunctions.
+// The propositions of a block.
+fn put_props(
+    alloc: Global,
+    text: &mut Text,
+    model: &Model,
+    props: &[(Prop, u32)],
+) -> Result<(), Memory>
+    ensures { OnOk result (text.new ≡ text.old ++ text_of (map (logic_line (model_tree model.now)) (props_of props.now))) }
+{
+    for prop in props {
+        put_prop_line(alloc, text, model, prop)?;
+    }
+    Ok(())
+}
+
+/// A block: its rows, then its disjunctions, and then its propositions.
 #[cycle(put)]
 #[tactic(auto, using(gdp_grammar::proofs::Printed::text_appended))]
 pub fn put_block(alloc: Global, text: &mut Text, model: &Model, block: &Block) -> Result<(), Memory>
@@ -50,7 +68,8 @@ pub fn put_block(alloc: Global, text: &mut Text, model: &Model, block: &Block) -
     ensures stored { OnOk result (is_stored (block_of block.now) ≡ true) }
 {
     put_rows(alloc, text, model, block.rows())?;
-    put_disjunctions(alloc, text, model, block.disjunctions())
+    put_disjunctions(alloc, text, model, block.disjunctions())?;
+    put_props(alloc, text, model, block.props())
 }
 
 #[cycle(put)]

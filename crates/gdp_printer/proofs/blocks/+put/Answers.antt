@@ -10,15 +10,15 @@ use Rattle.gdp_printer.proofs.blocks.+put.Goals as goal
 
 pub put_block-returns-clause-text : goal.put_block-returns-clause-text
 put_block-returns-clause-text t c =
-    on_ok c.put_disjunctions.result
-    (λ e. block_put (model_tree c.args.model.now) (block_of c.args.block.now) _ _ _ _ _ c.rows.ensures.tree c.disjunctions.ensures.tree c.in_ok-put_rows.ensures.text e)
-    c.put_disjunctions.ensures.text
+    on_ok c.put_props.result
+    (λ e. block_put (model_tree c.args.model.now) (block_of c.args.block.now) _ _ _ _ _ _ _ c.rows.ensures.tree c.disjunctions.ensures.tree c.props.ensures.tree c.in_ok-put_rows.ensures.text c.in_ok-put_disjunctions.ensures.text e)
+    c.put_props.ensures
 
 pub put_block-returns-clause-stored : goal.put_block-returns-clause-stored
 put_block-returns-clause-stored t c =
-    on_ok c.put_disjunctions.result
-    (λ e. block_stored (block_of c.args.block.now) _ _ c.rows.ensures.tree c.disjunctions.ensures.tree c.in_ok-put_rows.ensures.stored e)
-    c.put_disjunctions.ensures.stored
+    on_ok c.put_props.result
+    (λ e. block_stored (block_of c.args.block.now) _ _ c.rows.ensures.tree c.disjunctions.ensures.tree c.in_ok-put_rows.ensures.stored c.in_ok-put_disjunctions.ensures.stored)
+    c.put_props.ensures
 
 pub put_disjunct-returns-clause-text : goal.put_disjunct-returns-clause-text
 put_disjunct-returns-clause-text t c =
