@@ -226,6 +226,35 @@ fn tests_choices(rt: HostRuntime) {
     }
 }
 
+/// A choice of exactly one of two, beside logic that wants both.
+const CLASH: &[u8] =
+    b"gdp 1\nvar x real 0 1\ndisjunction xor\ndisjunct a\nend\ndisjunct b\nend\nend\nlogic exactly(2, a, b)\n";
+
+#[test]
+fn no_setting_meets_logic_that_clashes(rt: HostRuntime) {
+    // The indicators that are true, and what is answered: a block's propositions are tested before its disjunctions.
+    let rows: [(&[u8], &[u8]); 4] = [
+        (b"val x 0\nend\n", b"fails at line 9\n"),
+        (b"val x 0\non a\nend\n", b"fails at line 9\n"),
+        (b"val x 0\non b\nend\n", b"fails at line 9\n"),
+        (b"val x 0\non a\non b\nend\n", b"fails at line 3\n"),
+    ];
+    for (lines, on_out) in rows {
+        let mut point = Text::from_slice(rt.alloc(), b"gdp-point 1\nover 1\n").expect(
+            &rt, "memory",
+        );
+        point.append(rt.alloc(), lines).expect(&rt, "memory");
+        let given = Given {
+            model: CLASH,
+            point: point.as_slice(),
+            shelf_fails: 0,
+            out_fails: 0,
+            err_fails: 0,
+        };
+        expect(&rt, &["test", "M", "P"], &given, Status::No, on_out, b"");
+    }
+}
+
 /// Formats a model, and compares what is answered.
 fn expect_format(
     rt: &(impl AllocGlobal + Abort),
@@ -253,6 +282,21 @@ fn formats_models(rt: HostRuntime) {
     expect_format(&rt, MODEL, 2, Status::Write, b"gdp 1\nva", b"write fault\n");
     let scaled = b"gdp 1\nvar x real 0 10\nrow 1000000000000001 x <= 1\n";
     expect_format(&rt, scaled, 0, Status::Text, b"", b"M: line 3: Number\n");
+}
+
+#[test]
+fn reads_logic_to_its_limits(rt: HostRuntime) {
+    let past = b"gdp 1\nvar x real 0 1\nboolean p\nlogic exactly(1001, p)\n";
+    expect_format(&rt, past, 0, Status::Text, b"", b"M: line 4: Number\n");
+    let deep =
+        b"gdp 1\nvar x real 0 1\nboolean b\nlogic not(not(not(not(not(not(not(not(not(not(not(not(not(not(not(not(b))))))))))))))))\n";
+    expect_format(&rt, deep, 0, Status::Text, b"", b"M: line 4: Nesting\n");
+    let read =
+        b"gdp 1\nvar x real 0 1\nboolean b\nmin 0\nlogic not(not(not(not(not(not(not(not(not(not(not(not(not(not(not(b)))))))))))))))\n";
+    expect_format(&rt, read, 0, Status::Done, read, b"");
+    let loose = b"gdp 1\nvar x real 0 1\nboolean p\nlogic exactly(01,p , not( p ))\n";
+    let plain = b"gdp 1\nvar x real 0 1\nboolean p\nmin 0\nlogic exactly(1, p, not(p))\n";
+    expect_format(&rt, loose, 0, Status::Done, plain, b"");
 }
 
 /// A text of so many blanks.
