@@ -1,10 +1,9 @@
 //! Values reckoned by hand: the conditions of a model's items, and the point test of propositions.
 
-use crate::{Bound, Mode, Model, ModelBuilder, SumWide, Verdict, item_count, item_tri, satisfies};
-use fractions::Memory;
+use crate::tests::{Step, built};
+use crate::{Mode, Model, SumWide, Verdict, item_count, item_tri, satisfies};
 use gdp_tables::Tri;
-use lp_rows::{Kind, Point};
-use propositions::Prop;
+use lp_rows::Point;
 use std::alloc::Global;
 use std::test::Fail;
 
@@ -14,43 +13,29 @@ const Y: Tri = Tri::Yes;
 
 const O: Tri = Tri::Open;
 
-// The first Boolean implies the second.
-fn implication(alloc: Global) -> Result<Prop, Memory> {
-    let first = Box::new(alloc, Prop::Atom(0))?;
-    let second = Box::new(alloc, Prop::Atom(1))?;
-    Ok(Prop::Implies(first, second))
-}
-
 // The Booleans of this model are p, q, a, c, d and b. At the root p implies q, and a or b is chosen; below a stands p,
 // and one of c and d is chosen.
 fn model(alloc: Global) -> Result<Model, Fail> {
-    let mut builder = ModelBuilder::new(alloc);
-    let bound = Bound {
-        low: None,
-        high: None,
-    };
-    builder.var(alloc, "x", Kind::Real, bound, 1)?;
-    builder.boolean(alloc, "p", 2)?;
-    builder.boolean(alloc, "q", 3)?;
-    let prop = implication(alloc).map_err(|_| "no memory")?;
-    builder.prop(alloc, &prop, 4)?;
-    builder.open_disjunction(alloc, Mode::Or, 5)?;
-    builder.open_disjunct(alloc, "a", 6)?;
-    builder.prop(alloc, &Prop::Atom(0), 7)?;
-    builder.open_disjunction(alloc, Mode::Xor, 8)?;
-    builder.open_disjunct(alloc, "c", 9)?;
-    builder.close(alloc)?;
-    builder.open_disjunct(alloc, "d", 10)?;
-    builder.close(alloc)?;
-    builder.close(alloc)?;
-    builder.close(alloc)?;
-    builder.open_disjunct(alloc, "b", 11)?;
-    builder.close(alloc)?;
-    builder.close(alloc)?;
-    match builder.finish(alloc) {
-        Ok(model) => Ok(model),
-        Err((_, _)) => Err("not finished")?,
-    }
+    let steps = [
+        Step::Var("x", 0, 1),
+        Step::Boolean("p"),
+        Step::Boolean("q"),
+        Step::Implies(0, 1),
+        Step::Choose(Mode::Or),
+        Step::Open("a"),
+        Step::Is(0),
+        Step::Choose(Mode::Xor),
+        Step::Open("c"),
+        Step::Close,
+        Step::Open("d"),
+        Step::Close,
+        Step::Close,
+        Step::Close,
+        Step::Open("b"),
+        Step::Close,
+        Step::Close,
+    ];
+    built(alloc, &steps)
 }
 
 // The reading of an item's condition.
@@ -108,10 +93,10 @@ fn a_proposition_is_tested_before_the_disjunctions_of_its_block(
     let table = [
         (
             [true, false, false, false, false, false],
-            Verdict::FailsAt(4),
+            Verdict::FailsAt(5),
         ),
-        ([false, true, true, true, true, false], Verdict::FailsAt(7)),
-        ([true, true, true, true, true, false], Verdict::FailsAt(8)),
+        ([false, true, true, true, true, false], Verdict::FailsAt(8)),
+        ([true, true, true, true, true, false], Verdict::FailsAt(9)),
         ([true, true, true, true, false, false], Verdict::Holds),
         // The proposition below a false disjunct is not tested.
         ([false, false, false, false, false, true], Verdict::Holds),

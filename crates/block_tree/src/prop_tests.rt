@@ -1,5 +1,6 @@
 //! Values from outside: which propositions a builder takes, and what a model shows of them.
 
+use crate::tests::{Step, built};
 use crate::{Bound, BuildError, Mode, ModelBuilder};
 use fractions::Memory;
 use lp_rows::Kind;
@@ -93,43 +94,46 @@ fn all_propositions_have_at_most_five_thousand_nodes(rt: HostRuntime) -> Result<
     let mut builder = begun(alloc)?;
     let prop = large(alloc)?;
     assert_eq!(rt; node_count(&prop), 2_500);
-    builder.prop(alloc, &prop, 4)?;
-    builder.open_disjunction(alloc, Mode::Or, 5)?;
-    builder.open_disjunct(alloc, "b", 6)?;
-    builder.prop(alloc, &prop, 7)?;
-    builder.close(alloc)?;
-    builder.close(alloc)?;
-    let refused = builder.prop(alloc, &Prop::Atom(0), 8);
-    assert_eq!(rt; refused, Err(BuildError::Limit));
+    for want in [Ok(()), Ok(()), Err(BuildError::Limit)] {
+        assert_eq!(rt; builder.prop(alloc, &prop, 4), want);
+    }
     Ok(())
+}
+
+// Whether these are the Boolean of this number alone, with this mark.
+fn is_alone(props: &[(Prop, u32)], id: u32, mark: u32) -> bool {
+    match props {
+        [(Prop::Atom(found), place)] => *found == id && *place == mark,
+        _ => false,
+    }
 }
 
 #[test]
 fn a_model_shows_its_propositions(rt: HostRuntime) -> Result<(), Fail> {
-    let alloc = rt.alloc();
-    let mut builder = begun(alloc)?;
-    builder.prop(alloc, &negated(alloc, 0, 1)?, 4)?;
-    builder.open_disjunction(alloc, Mode::Or, 5)?;
-    builder.open_disjunct(alloc, "b", 6)?;
-    builder.prop(alloc, &Prop::Atom(1), 7)?;
-    builder.close(alloc)?;
-    builder.close(alloc)?;
-    assert_eq!(rt; builder.boolean_id("b"), Some(1));
-    assert_eq!(rt; builder.boolean_id("x"), None);
-    let Ok(model) = builder.finish(alloc) else {
-        return Err("not finished")?;
-    };
-    match model.root().props() {
-        [(prop, mark)] => assert_eq!(rt; (node_count(prop), *mark), (2, 4)),
-        _ => assert!(rt; false),
-    }
+    let steps = [
+        Step::Var("x", 0, 1),
+        Step::Boolean("a"),
+        Step::Is(0),
+        Step::Choose(Mode::Or),
+        Step::Open("b"),
+        Step::Is(1),
+        Step::Close,
+        Step::Close,
+    ];
+    let model = built(rt.alloc(), &steps)?;
+    assert!(rt; is_alone(model.root().props(), 0, 4));
     for disjunction in model.root().disjunctions() {
         for disjunct in disjunction.disjuncts() {
-            match disjunct.block().props() {
-                [(Prop::Atom(id), mark)] => assert_eq!(rt; (*id, *mark), (1, 7)),
-                _ => assert!(rt; false),
-            }
+            assert!(rt; is_alone(disjunct.block().props(), 1, 7));
         }
     }
+    Ok(())
+}
+
+#[test]
+fn a_boolean_is_found_by_its_name(rt: HostRuntime) -> Result<(), Fail> {
+    let builder = begun(rt.alloc())?;
+    assert_eq!(rt; builder.boolean_id("a"), Some(0));
+    assert_eq!(rt; builder.boolean_id("x"), None);
     Ok(())
 }

@@ -6,17 +6,20 @@ use crate::{
 };
 use fractions::Frac;
 use lp_rows::{Kind, Point, Rel, Sense};
+use propositions::Prop;
 use std::alloc::Global;
 use std::test::Fail;
 
 /// One call of a builder. Numbers are written as a numerator over a denominator.
 #[derive(Clone, Copy)]
-enum Step {
+pub(crate) enum Step {
     Var(&'static str, i128, i128),
     Boolean(&'static str),
     Goal(i128, i128),
     Row(i128, i128, Rel, i128, i128),
     Pair(u32, u32),
+    Is(u32),
+    Implies(u32, u32),
     Choose(Mode),
     Open(&'static str),
     Close,
@@ -53,6 +56,8 @@ fn call(
                 mark,
             )
         }
+        Step::Is(id) => builder.prop(alloc, &Prop::Atom(id), mark),
+        Step::Implies(first, second) => imply(alloc, builder, first, second, mark),
         Step::Choose(mode) => builder.open_disjunction(alloc, mode, mark),
         Step::Open(name) => match builder.open_disjunct(alloc, name, mark) {
             Ok(_) => Ok(()),
@@ -60,6 +65,23 @@ fn call(
         },
         Step::Close => builder.close(alloc),
     }
+}
+
+// The first of two Booleans implies the second.
+fn imply(
+    alloc: Global,
+    builder: &mut ModelBuilder,
+    first: u32,
+    second: u32,
+    mark: u32,
+) -> Result<(), BuildError> {
+    let Ok(first) = Box::new(alloc, Prop::Atom(first)) else {
+        return Err(BuildError::Memory);
+    };
+    let Ok(second) = Box::new(alloc, Prop::Atom(second)) else {
+        return Err(BuildError::Memory);
+    };
+    builder.prop(alloc, &Prop::Implies(first, second), mark)
 }
 
 fn frac(num: i128, den: i128) -> Result<Frac, BuildError> {
@@ -107,7 +129,7 @@ fn finished(alloc: Global, builder: ModelBuilder) -> Result<Model, Fail> {
     }
 }
 
-fn built(alloc: Global, steps: &[Step]) -> Result<Model, Fail> {
+pub(crate) fn built(alloc: Global, steps: &[Step]) -> Result<Model, Fail> {
     finished(alloc, after(alloc, steps)?)
 }
 
