@@ -1,2 +1,3 @@
+pub mod PropTexts
 pub mod Stored
 pub mod Texts

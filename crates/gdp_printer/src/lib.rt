@@ -10,6 +10,7 @@ mod indicators;
 mod lines;
 pub mod models;
 mod numbers;
+mod props;
 mod sums;
 
 pub use models::model_text;

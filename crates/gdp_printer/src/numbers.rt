@@ -28,8 +28,8 @@ pub fn put_word(alloc: Global, text: &mut Text, word: &[u8]) -> Result<(), Memor
     text.append(alloc, word)
 }
 
-// The digits of a number.
-fn put_digits(alloc: Global, text: &mut Text, number: u128) -> Result<(), Memory>
+/// The digits of a number.
+pub fn put_digits(alloc: Global, text: &mut Text, number: u128) -> Result<(), Memory>
     ensures { OnOk result (text.new ≡ text.old ++ decimal number) }
 {
     let digits = number.to_string(alloc)?;
