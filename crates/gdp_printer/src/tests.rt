@@ -1,9 +1,12 @@
 //! Texts of small models, written by hand.
 
 use crate::model_text;
+use crate::props::put_prop_line;
 use block_tree::{Bound, BuildError, Mode, Model, ModelBuilder};
-use fractions::Frac;
+use fractions::{Frac, Memory};
+use gdp_io::Text;
 use lp_rows::{Kind, Rel, Sense};
+use propositions::Prop;
 use std::alloc::Global;
 use std::test::Fail;
 
@@ -169,4 +172,67 @@ fn choices_within_choices(rt: HostRuntime) -> Result<(), Fail> {
     let want =
         b"gdp 1\nvar x real -5 5\nboolean b\nmin 0\nrow 2 x >= -1\ndisjunction or\ndisjunct out\ndisjunction xor\ndisjunct in\nrow -2 x <= 7\nend\nend\nend\nend\n";
     expect(rt.alloc(), &calls, want)
+}
+
+// The Booleans from 0 on.
+fn atoms(alloc: Global, count: u32) -> Result<Vec<Prop>, Memory> {
+    let mut atoms = Vec::new(alloc);
+    for id in 0..count {
+        atoms.push(Prop::Atom(id))?;
+    }
+    Ok(atoms)
+}
+
+// A Boolean in a box.
+fn boxed(alloc: Global, id: u32) -> Result<Box<Prop>, Memory> {
+    Ok(Box::new(alloc, Prop::Atom(id))?)
+}
+
+// The negation of an implication of an exclusive or.
+fn negated(alloc: Global) -> Result<Prop, Memory> {
+    let inner = Box::new(alloc, Prop::Xor(boxed(alloc, 0)?, boxed(alloc, 1)?))?;
+    let implied = Prop::Implies(boxed(alloc, 2)?, inner);
+    Ok(Prop::Not(Box::new(alloc, implied)?))
+}
+
+// A list of each kind, and one of no arguments.
+fn lists(alloc: Global) -> Result<Vec<Prop>, Memory> {
+    let mut props = Vec::new(alloc);
+    props.push(negated(alloc)?)?;
+    props.push(Prop::And(atoms(alloc, 3)?))?;
+    props.push(Prop::Or(Vec::new(alloc)))?;
+    props.push(Prop::Equivalent(boxed(alloc, 1)?, boxed(alloc, 0)?))?;
+    props.push(Prop::Exactly(10, atoms(alloc, 1)?))?;
+    props.push(Prop::AtMost(0, atoms(alloc, 2)?))?;
+    Ok(props)
+}
+
+// The line of a proposition with every operator.
+fn logic_line(alloc: Global, model: &Model) -> Result<Text, Memory> {
+    let mut text = Text::new(alloc);
+    put_prop_line(
+        alloc,
+        &mut text,
+        model,
+        &(Prop::AtLeast(2, lists(alloc)?), 9),
+    )?;
+    Ok(text)
+}
+
+#[test]
+fn a_proposition_with_every_operator(rt: HostRuntime) -> Result<(), Fail> {
+    let calls = [
+        Call::Var("x", Kind::Real, None, None),
+        Call::Boolean("a"),
+        Call::Boolean("b"),
+        Call::Boolean("long_name"),
+    ];
+    let model = built(rt.alloc(), &calls)?;
+    let text = logic_line(rt.alloc(), &model).map_err(|_| "memory")?;
+    let want =
+        b"logic atleast(2, not(implies(long_name, xor(a, b))), and(a, b, long_name), or(), equivalent(b, a), exactly(10, a), atmost(0, a, b))\n";
+    if text.as_slice() == want.as_slice() {
+        return Ok(());
+    }
+    Err("another text")?
 }
