@@ -10,3 +10,11 @@ pub mod SumSteps
 pub mod Values
 pub mod NameWords
 pub mod PointEnds
+pub mod OperatorWords
+pub mod PropSteps
+pub mod PropJoints
+pub mod PropFused
+pub mod PropSizing
+pub mod PropTurns
+pub mod PropNumbers
+pub mod PropTrees

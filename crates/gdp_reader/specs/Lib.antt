@@ -1,9 +1,14 @@
 pub mod Building
 pub mod Denominators
 pub mod Gives
+pub mod Heads
 pub mod Lines
+pub mod Mapped
+pub mod Operators
 pub mod PointLines
 pub mod PointTaking
 pub mod Ranges
+pub mod Sizes
 pub mod Taking
 pub mod Tokens
+pub mod Trees

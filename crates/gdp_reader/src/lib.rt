@@ -6,21 +6,27 @@
 //! read by its words (`word.rt`, `point_form.rt`), and adds to what the point has so far (`point_taking.rt`, `point.rt`).
 #![tactic(auto)]
 
+mod build;
 mod building;
 mod class;
 mod error;
 mod fault;
 mod form;
+mod head;
 mod integer;
 mod line;
+mod measure;
 mod model;
 #[cfg(test)]
 mod model_tests;
+mod operator;
 mod point;
 mod point_form;
 mod point_taking;
 #[cfg(test)]
 mod point_tests;
+#[cfg(test)]
+mod prop_tests;
 mod token;
 mod value;
 mod word;
