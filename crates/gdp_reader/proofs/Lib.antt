@@ -10,7 +10,6 @@ pub mod SumSteps
 pub mod Values
 pub mod NameWords
 pub mod PointEnds
-pub mod OperatorWords
 pub mod PropSteps
 pub mod PropJoints
 pub mod PropFused
@@ -18,3 +17,4 @@ pub mod PropSizing
 pub mod PropTurns
 pub mod PropNumbers
 pub mod PropTrees
+pub mod PropRefusals

@@ -10,7 +10,8 @@ use Rattle.gdp_grammar.specs.PropTexts.{Operator, negation, pair, all, some, cou
 use Rattle.gdp_grammar.specs.Tokens.{Piece}
 use Rattle.gdp_reader.specs.declared.measure.Size.{Size}
 use Rattle.gdp_reader.specs.Mapped.{result_map}
-use Rattle.gdp_reader.specs.Sizes.{named_depth, named_depth_within, named_nodes, named_nodes_within, named_most, named_most_within, named_number, named_greatest, named_greatest_within, operator_end, count_end, size_of, Measured, opened_size, with_size, joined_size, whole_size, closed_size, by_sizes}
+use Rattle.gdp_reader.specs.PropSizes.{named_depth, named_depth_within, named_nodes, named_nodes_within, named_most, named_most_within, number_in, named_greatest, named_greatest_within}
+use Rattle.gdp_reader.specs.Sizes.{operator_end, count_end, size_of, Measured, opened_size, with_size, joined_size, whole_size, closed_size, by_sizes}
 use Rattle.gdp_reader.proofs.PropFused.{Follows, fused}
 
 -- a size by its parts
@@ -105,7 +106,7 @@ swapped l a b = omega arith
 whole_sized : (booleans : List BooleanValue) (o : Operator) (ps : List NamedProp) → whole_size (measured booleans (o, ps)) ≡ size_of booleans (applied o (arguments ps))
 whole_sized booleans o ps =
     same_size _ _ _ _ _ _ _ _ _ _ refl
-    (swapped (2 ^ 32 - 1) (named_greatest_within (arguments ps)) (named_number o))
+    (swapped (2 ^ 32 - 1) (named_greatest_within (arguments ps)) (number_in o))
     (one_more (2 ^ 64 - 1) (named_depth_within (arguments ps)))
     (one_more (2 ^ 64 - 1) (named_nodes_within (arguments ps)))
     (swapped (2 ^ 64 - 1) (named_most_within (arguments ps)) (length ps) ∙ ap (λ (n : ℕ). count_end (max n (named_most_within (arguments ps)))) (sym (count_of ps)))

@@ -11,7 +11,8 @@ use Rattle.gdp_grammar.specs.PropReading.{Making, wants, made_of, arguments, app
 use Rattle.gdp_grammar.specs.PropTexts.{Operator, negation, pair, all, some, counted, NamedProp, named, applied, NamedProps, no_arguments, argument, takes}
 use Rattle.gdp_grammar.specs.Tokens.{Piece}
 use Rattle.gdp_reader.specs.Mapped.{result_map}
-use Rattle.gdp_reader.specs.Sizes.{named_number, named_greatest, named_greatest_within, operator_end}
+use Rattle.gdp_reader.specs.PropSizes.{number_in, named_greatest, named_greatest_within}
+use Rattle.gdp_reader.specs.Sizes.{operator_end}
 use Rattle.gdp_reader.specs.Trees.{capped_combined, capped_tree, capped_trees, OpenTree, closed_tree, by_trees}
 use Rattle.gdp_reader.proofs.PropFused.{Follows, fused}
 
@@ -60,7 +61,7 @@ unfolding prop_of
 trees_made booleans ps = fused by_names (by_trees booleans) (capped_tree booleans) (planted booleans) (trees_follow booleans) ps [] wants
 
 -- where each number is small, the tree is that of the proposition
-combined_small : (o : Operator) (ts : PropTrees) → named_number o ≤ 1000 → capped_combined o ts ≡ combined o ts
+combined_small : (o : Operator) (ts : PropTrees) → number_in o ≤ 1000 → capped_combined o ts ≡ combined o ts
 combined_small negation ts small = refl
 combined_small (pair c) ts small = refl
 combined_small all ts small = refl

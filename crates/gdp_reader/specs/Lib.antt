@@ -7,7 +7,9 @@ pub mod Mapped
 pub mod Operators
 pub mod PointLines
 pub mod PointTaking
+pub mod PropSizes
 pub mod Ranges
+pub mod SizeCauses
 pub mod Sizes
 pub mod Taking
 pub mod Tokens

@@ -8,51 +8,7 @@ use Rattle.gdp_grammar.specs.PropTexts.{Operator, counted, NamedProp, named, app
 use Rattle.gdp_reader.specs.declared.measure.Frame.{Frame}
 use Rattle.gdp_reader.specs.declared.measure.Size.{Size}
 use Rattle.gdp_reader.specs.Operators.{operator_value}
-
--- the depth: 1 of a name, and else one more than that of the deepest argument
-abbrev mutual
-  pub named_depth : NamedProp → ℕ
-  named_depth (named name) = 1
-  named_depth (applied o ps) = 1 + named_depth_within ps
-
-  pub named_depth_within : NamedProps → ℕ
-  named_depth_within no_arguments = 0
-  named_depth_within (argument p ps) = max (named_depth p) (named_depth_within ps)
-
--- how many names and operators there are
-abbrev mutual
-  pub named_nodes : NamedProp → ℕ
-  named_nodes (named name) = 1
-  named_nodes (applied o ps) = 1 + named_nodes_within ps
-
-  pub named_nodes_within : NamedProps → ℕ
-  named_nodes_within no_arguments = 0
-  named_nodes_within (argument p ps) = named_nodes p + named_nodes_within ps
-
--- the most arguments that one operator has
-abbrev mutual
-  pub named_most : NamedProp → ℕ
-  named_most (named name) = 0
-  named_most (applied o ps) = max (argument_count ps) (named_most_within ps)
-
-  pub named_most_within : NamedProps → ℕ
-  named_most_within no_arguments = 0
-  named_most_within (argument p ps) = max (named_most p) (named_most_within ps)
-
--- the number of a counting operator, 0 of another
-abbrev pub named_number : Operator → ℕ
-named_number (counted c digits) = decimal 0 digits
-named_number o = 0
-
--- the greatest number of a counting operator, 0 where there is none
-abbrev mutual
-  pub named_greatest : NamedProp → ℕ
-  named_greatest (named name) = 0
-  named_greatest (applied o ps) = max (named_number o) (named_greatest_within ps)
-
-  pub named_greatest_within : NamedProps → ℕ
-  named_greatest_within no_arguments = 0
-  named_greatest_within (argument p ps) = max (named_greatest p) (named_greatest_within ps)
+use Rattle.gdp_reader.specs.PropSizes.{named_depth, named_nodes, named_most, number_in, named_greatest}
 
 -- a number as far as that of an operator goes
 abbrev pub operator_end : ℕ → ℕ
@@ -74,7 +30,7 @@ size_of booleans p = record {
 
 -- the number of a counting operator, 0 of another
 abbrev pub operator_number : Operator → ℕ
-operator_number o = operator_end (named_number o)
+operator_number o = operator_end (number_in o)
 
 -- an operator, how many arguments it has so far, and their size
 abbrev pub Measured : Type 0

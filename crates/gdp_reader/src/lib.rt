@@ -15,6 +15,7 @@ mod form;
 mod head;
 mod integer;
 mod line;
+mod logic;
 mod measure;
 mod model;
 #[cfg(test)]
