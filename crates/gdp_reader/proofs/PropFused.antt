@@ -1,13 +1,11 @@
 -- Two makings that go along with each other make what goes along.
-use Rattle.std.proofs.Common.{◌≡◌, ℕ, Bool, true, false, List, [], ◌∷◌, map, Option, Some, None, Result, Ok, Err, if◌then◌else◌, refl, ap, sym, ◌∙◌}
+use Rattle.std.proofs.Common.{◌≡◌, ℕ, Bool, true, false, List, [], ◌∷◌, map, Option, Some, None, if◌then◌else◌, refl, ap, ◌∙◌}
 use Rattle.std.specs.Option.{option_map}
-use Rattle.gdp_grammar.specs.declared.cause.ReadCause.{ReadCause}
-use Rattle.gdp_grammar.specs.declared.cause.ReadCause.TheVariants as cause
 use Rattle.gdp_grammar.specs.declared.symbol.Symbol.TheVariants.{Open, Close, Comma}
 use Rattle.gdp_grammar.specs.Keywords.{is_reserved}
 use Rattle.gdp_grammar.specs.Numerals.{Whole}
 use Rattle.gdp_grammar.specs.PropReading.{Making, OperatorWord, plain, counting, operator_of, Place, wants, opens, counts, parts, has, after_word, on, closing, step_of, ended_of, going_on, made_of}
-use Rattle.gdp_grammar.specs.PropTexts.{Operator, counted}
+use Rattle.gdp_grammar.specs.PropTexts.{Operator}
 use Rattle.gdp_grammar.specs.Tokens.{Piece, Word, Number, Mark}
 use Rattle.gdp_reader.specs.Mapped.{result_map}
 

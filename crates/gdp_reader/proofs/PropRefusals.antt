@@ -1,5 +1,5 @@
 -- The cause against a proposition is that against its size, as far as the reader's numbers go.
-use Rattle.std.proofs.Common.{◌≡◌, ℕ, ◌<◌, ◌-◌, ◌^◌, min, Bool, not, ◌||◌, List, Option, Some, None, if◌then◌else◌, nat_le, ap, ◌∙◌, arith}
+use Rattle.std.proofs.Common.{◌≡◌, ℕ, ◌<◌, ◌-◌, ◌^◌, min, Bool, not, ◌||◌, List, Option, Some, None, if◌then◌else◌, nat_le, arith}
 use Rattle.std.proofs.lemmas.Bool.Decides.{nat_tests}
 use Rattle.block_tree.specs.Variables.{BooleanValue}
 use Rattle.gdp_grammar.specs.declared.cause.ReadCause.{ReadCause}
@@ -7,7 +7,7 @@ use Rattle.gdp_grammar.specs.declared.cause.ReadCause.TheVariants.{NameUnknown, 
 use Rattle.gdp_grammar.specs.PropNames.{are_known}
 use Rattle.gdp_grammar.specs.PropTexts.{NamedProp}
 use Rattle.gdp_reader.specs.PropSizes.{named_greatest, named_depth, named_nodes, named_most}
-use Rattle.gdp_reader.specs.SizeCauses.{refusal_by, refusal_of_size, refusal_of_named}
+use Rattle.gdp_reader.specs.SizeCauses.{refusal_of_size, refusal_of_named}
 use Rattle.gdp_reader.specs.Sizes.{size_of}
 
 below_end : (n k l : ℕ) → k < l → nat_le (min n l) k ≡ nat_le n k

@@ -1,17 +1,17 @@
 -- The sizes of a proposition's tokens are those of the proposition.
-use Rattle.std.proofs.Common.{◌≡◌, ℕ, zero, suc, ◌+◌, ◌-◌, ◌^◌, ◌≤◌, min, max, Bool, true, false, ◌&&◌, List, [], ◌∷◌, ◌++◌, length, Option, Some, None, Result, Ok, Err, if◌then◌else◌, refl, ap, sym, ◌∙◌, arith, inl, inr}
+use Rattle.std.proofs.Common.{◌≡◌, ℕ, suc, ◌+◌, ◌-◌, ◌^◌, ◌≤◌, min, max, Bool, true, false, ◌&&◌, List, [], ◌∷◌, ◌++◌, length, Option, Some, None, if◌then◌else◌, refl, ap, sym, ◌∙◌, arith}
 use Rattle.std.specs.Option.{option_map}
 use Rattle.std.proofs.lemmas.List.{length-append}
 use Rattle.std.proofs.lemmas.Bool.Decides.{nat_tests}
 use Rattle.block_tree.specs.Variables.{BooleanValue}
 use Rattle.gdp_grammar.specs.PropNames.{are_known, are_all_known}
-use Rattle.gdp_grammar.specs.PropReading.{Making, wants, made_of, arguments, application, by_names, prop_of}
-use Rattle.gdp_grammar.specs.PropTexts.{Operator, negation, pair, all, some, counted, NamedProp, named, applied, argument_count, takes}
+use Rattle.gdp_grammar.specs.PropReading.{wants, made_of, arguments, application, by_names, prop_of}
+use Rattle.gdp_grammar.specs.PropTexts.{Operator, negation, pair, all, some, counted, NamedProp, applied, argument_count, takes}
 use Rattle.gdp_grammar.specs.Tokens.{Piece}
 use Rattle.gdp_reader.specs.declared.measure.Size.{Size}
 use Rattle.gdp_reader.specs.Mapped.{result_map}
 use Rattle.gdp_reader.specs.PropSizes.{named_depth, named_depth_within, named_nodes, named_nodes_within, named_most, named_most_within, number_in, named_greatest, named_greatest_within}
-use Rattle.gdp_reader.specs.Sizes.{operator_end, count_end, size_of, Measured, opened_size, with_size, joined_size, whole_size, closed_size, by_sizes}
+use Rattle.gdp_reader.specs.Sizes.{operator_end, count_end, size_of, Measured, with_size, joined_size, whole_size, closed_size, by_sizes}
 use Rattle.gdp_reader.proofs.PropFused.{Follows, fused}
 
 -- a size by its parts

@@ -1,24 +1,15 @@
 -- One turn after the other of reading a proposition.
-use Rattle.std.proofs.Common.{◌≡◌, ℕ, ◌<◌, ◌≤◌, Bool, true, false, List, [], ◌∷◌, ◌++◌, length, map, Option, Some, None, Result, Ok, Err, if◌then◌else◌, refl, ap, sym, ◌∙◌, arith, inl, inr}
-use Rattle.std.proofs.lemmas.Bool.{cond-true, cond-false}
-use Rattle.std.proofs.lemmas.List.{reverse-append}
+use Rattle.std.proofs.Common.{◌≡◌, ℕ, Bool, true, false, List, [], ◌∷◌, Option, Some, None, Result, Ok, Err, if◌then◌else◌, refl, sym, ◌∙◌}
 use Rattle.gdp_grammar.specs.declared.cause.ReadCause.{ReadCause}
 use Rattle.gdp_grammar.specs.declared.cause.ReadCause.TheVariants as cause
 use Rattle.gdp_grammar.specs.declared.symbol.Symbol.TheVariants.{Plus, Minus, Open, Close, Comma, Equal, AtMost, AtLeast}
 use Rattle.gdp_grammar.specs.Causes.{◌>>=◌}
 use Rattle.gdp_grammar.specs.Keywords.{is_reserved}
 use Rattle.gdp_grammar.specs.Numerals.{Whole, Fraction, Decimal}
-use Rattle.gdp_grammar.specs.PropReading.{Making, OperatorWord, plain, counting, operator_of, Place, wants, opens, counts, parts, has, after_word, on, ended_of, going_on, made_of}
-use Rattle.gdp_grammar.specs.PropTexts.{Operator, Counting, counted}
+use Rattle.gdp_grammar.specs.PropReading.{Making, OperatorWord, plain, counting, operator_of, wants, opens, counts, parts, has, after_word, on, going_on, made_of}
+use Rattle.gdp_grammar.specs.PropTexts.{Counting, counted}
 use Rattle.gdp_grammar.specs.Tokens.{Piece, Word, Number, Mark, Stray}
-use Rattle.gdp_grammar.proofs.Cutting.{told}
-use Rattle.gdp_grammar.proofs.Sums.{bind_ok}
-use Rattle.gdp_reader.specs.declared.fault.LineError.{LineError}
-use Rattle.gdp_reader.specs.declared.fault.LineError.TheVariants.{Refused, Memory}
-use Rattle.gdp_reader.specs.declared.head.Joint.{Joint}
-use Rattle.gdp_reader.specs.declared.head.Joint.TheVariants.{End, Further, Closes}
-use Rattle.gdp_reader.specs.Gives.{Fails}
-use Rattle.gdp_reader.specs.Heads.{Beginning, of_name, of_operator, past_open, past_comma, digits_of, opened_of, opening_of, head_in, head_of, joint_of}
+use Rattle.gdp_reader.specs.Heads.{Beginning, of_name, of_operator, past_open, past_comma, opened_of, opening_of, head_in, head_of}
 
 -- what is made after a beginning
 abbrev pub after_head : {P O : Type 0} → Making P O → List O → Beginning × List Piece → Result P ReadCause

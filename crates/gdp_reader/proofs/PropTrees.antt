@@ -1,5 +1,5 @@
 -- The trees of a proposition's tokens are those of the proposition.
-use Rattle.std.proofs.Common.{◌≡◌, ℕ, ◌-◌, ◌^◌, ◌≤◌, min, max, Bool, true, false, List, [], ◌∷◌, ◌++◌, length, map, Option, Some, None, if◌then◌else◌, refl, ap, sym, ◌∙◌, arith}
+use Rattle.std.proofs.Common.{◌≡◌, ℕ, ◌-◌, ◌^◌, ◌≤◌, min, Bool, true, false, List, [], ◌∷◌, ◌++◌, length, map, Option, Some, None, if◌then◌else◌, refl, ap, sym, ◌∙◌, arith}
 use Rattle.std.specs.Option.{option_map}
 use Rattle.std.proofs.lemmas.List.{map-append}
 use Rattle.propositions.specs.Tree.{PropTree, listed, PropTrees, prop}
@@ -7,12 +7,11 @@ use Rattle.propositions.specs.View.{in_order}
 use Rattle.block_tree.specs.Variables.{BooleanValue}
 use Rattle.gdp_grammar.specs.Numerals.{decimal}
 use Rattle.gdp_grammar.specs.PropNames.{counting_connective, combined, tree_in, trees_in}
-use Rattle.gdp_grammar.specs.PropReading.{Making, wants, made_of, arguments, application, by_names, prop_of}
+use Rattle.gdp_grammar.specs.PropReading.{wants, made_of, arguments, application, by_names, prop_of}
 use Rattle.gdp_grammar.specs.PropTexts.{Operator, negation, pair, all, some, counted, NamedProp, named, applied, NamedProps, no_arguments, argument, takes}
 use Rattle.gdp_grammar.specs.Tokens.{Piece}
 use Rattle.gdp_reader.specs.Mapped.{result_map}
 use Rattle.gdp_reader.specs.PropSizes.{number_in, named_greatest, named_greatest_within}
-use Rattle.gdp_reader.specs.Sizes.{operator_end}
 use Rattle.gdp_reader.specs.Trees.{capped_combined, capped_tree, capped_trees, OpenTree, closed_tree, by_trees}
 use Rattle.gdp_reader.proofs.PropFused.{Follows, fused}
 

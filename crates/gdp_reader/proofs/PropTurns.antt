@@ -1,20 +1,17 @@
 -- One turn of the loops over a proposition's tokens.
-use Rattle.std.proofs.Common.{◌≡◌, ℕ, ◌<◌, List, [], ◌∷◌, ◌++◌, length, map, reverse, Option, Some, None, Result, Ok, Err, refl, ap, sym, ◌∙◌}
+use Rattle.std.proofs.Common.{◌≡◌, ℕ, ◌<◌, List, [], ◌∷◌, ◌++◌, length, Option, Some, None, Result, Ok, ap, sym, ◌∙◌}
 use Rattle.gdp_grammar.specs.declared.cause.ReadCause.{ReadCause}
-use Rattle.gdp_grammar.specs.declared.cause.ReadCause.TheVariants as cause
-use Rattle.gdp_grammar.specs.PropReading.{Making, Place, wants, has, made_of}
+use Rattle.gdp_grammar.specs.PropReading.{Making, wants, has, made_of}
 use Rattle.gdp_grammar.specs.Tokens.{Piece}
 use Rattle.gdp_reader.specs.declared.fault.LineError.{LineError}
 use Rattle.gdp_reader.specs.declared.head.Head.{Head}
-use Rattle.gdp_reader.specs.declared.head.Head.TheVariants.{Name, Opens}
+use Rattle.gdp_reader.specs.declared.head.Head.TheVariants.{Opens}
 use Rattle.gdp_reader.specs.declared.head.Joint.{Joint}
-use Rattle.gdp_reader.specs.declared.head.Joint.TheVariants.{End, Further, Closes}
 use Rattle.gdp_reader.specs.declared.operator.Operator.{Operator}
 use Rattle.gdp_reader.specs.Gives.{Fails}
 use Rattle.gdp_reader.specs.Heads.{Beginning, of_name, of_operator, head_value, head_of, joint_of}
 use Rattle.gdp_reader.specs.Operators.{operator_value}
-use Rattle.gdp_reader.proofs.PropSteps.{after_head}
-use Rattle.gdp_reader.proofs.PropJoints.{after_close, after_joint, wrong_head, right_head, wrong_joint, right_joint, head_left, further_left, closes_left, place_of, inward, pushed_inward}
+use Rattle.gdp_reader.proofs.PropJoints.{after_joint, wrong_head, right_head, wrong_joint, right_joint, head_left, place_of, inward, pushed_inward}
 
 -- it is read so far, with these operators open
 abbrev pub Reads : {P O X : Type 0} → Making P O → (X → O) → List X → Option P → List Piece → Result P ReadCause → Type 0

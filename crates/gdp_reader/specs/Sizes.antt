@@ -1,10 +1,9 @@
 -- How large a proposition of a text is, as far as the reader's numbers go.
-use Rattle.std.specs.Prelude.{ℕ, suc, ◌+◌, ◌-◌, ◌*◌, ◌^◌, min, max, Bool, true, ◌&&◌, List, [], ◌∷◌, Option, None, Some, is_some, if◌then◌else◌}
+use Rattle.std.specs.Prelude.{ℕ, ◌+◌, ◌-◌, ◌^◌, min, max, true, ◌&&◌, List, Option, None, Some, is_some, if◌then◌else◌}
 use Rattle.block_tree.specs.Variables.{BooleanValue}
-use Rattle.gdp_grammar.specs.Numerals.{decimal}
 use Rattle.gdp_grammar.specs.PropNames.{boolean_number, are_known}
-use Rattle.gdp_grammar.specs.PropReading.{Making, Place, wants, has}
-use Rattle.gdp_grammar.specs.PropTexts.{Operator, counted, NamedProp, named, applied, NamedProps, no_arguments, argument, argument_count, takes}
+use Rattle.gdp_grammar.specs.PropReading.{Making}
+use Rattle.gdp_grammar.specs.PropTexts.{Operator, NamedProp, takes}
 use Rattle.gdp_reader.specs.declared.measure.Frame.{Frame}
 use Rattle.gdp_reader.specs.declared.measure.Size.{Size}
 use Rattle.gdp_reader.specs.Operators.{operator_value}

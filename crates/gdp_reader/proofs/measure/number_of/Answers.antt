@@ -1,4 +1,4 @@
-use Rattle.std.proofs.Common.{◌∙◌, ◌≡◌, ◌≤◌, ◌-◌, ◌^◌, min, length, arith}
+use Rattle.std.proofs.Common.{◌∙◌, ◌≤◌, ◌-◌, ◌^◌, min, length, arith}
 use Rattle.gdp_grammar.specs.Numerals.{decimal}
 use Rattle.gdp_reader.proofs.PropNumbers.{digit_capped, all_digits}
 use Rattle.gdp_reader.proofs.measure.number_of.Goals as goal
