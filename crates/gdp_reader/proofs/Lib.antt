@@ -18,3 +18,4 @@ pub mod PropTurns
 pub mod PropNumbers
 pub mod PropTrees
 pub mod PropRefusals
+pub mod PropLines

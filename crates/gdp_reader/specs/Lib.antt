@@ -3,6 +3,7 @@ pub mod Denominators
 pub mod Gives
 pub mod Heads
 pub mod Lines
+pub mod LogicLines
 pub mod Mapped
 pub mod Operators
 pub mod PointLines

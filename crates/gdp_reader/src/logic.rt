@@ -1,10 +1,20 @@
 //! A line that adds a proposition.
 
 ghost use Rattle.std.specs.Prelude.{◌≡◌};
+ghost use Rattle.propositions.specs.View.{prop_tree};
+ghost use Rattle.block_tree.specs.Standing.{stands_for};
+ghost use Rattle.gdp_reader.specs.Gives.{Gives};
+ghost use Rattle.gdp_reader.specs.LogicLines.{line_tree};
 ghost use Rattle.gdp_reader.specs.SizeCauses.{refusal_of_size};
 
-use crate::measure::Size;
+use crate::build::build;
+use crate::fault::LineError;
+use crate::measure::{Size, measure};
+use crate::token::Tokens;
+use block_tree::ModelBuilder;
 use gdp_grammar::ReadCause;
+use propositions::Prop;
+use std::alloc::Global;
 
 /// The greatest number of a counting operator.
 const GREATEST: u32 = 1000;
@@ -35,4 +45,20 @@ pub fn size_refusal(size: &Size) -> Option<ReadCause>
         return Some(ReadCause::Limit);
     }
     None
+}
+
+/// The proposition of a line: its names are known, its numbers small, and its size is within the limits. Nothing that
+/// is refused is built.
+pub fn line_prop(
+    alloc: Global,
+    builder: &ModelBuilder,
+    tokens: &Tokens<'_>,
+) -> Result<Prop, LineError>
+    ensures { Gives prop_tree result (line_tree (stands_for builder.now).booleans tokens.now) }
+{
+    let size = measure(alloc, builder, &mut tokens.ahead())?;
+    match size_refusal(&size) {
+        Some(cause) => Err(LineError::Refused(cause)),
+        None => build(alloc, builder, &mut tokens.ahead()),
+    }
 }
