@@ -3,6 +3,7 @@ use Rattle.std.proofs.Common.{◌≡◌, ℕ, Bool, true, false, if◌then◌els
 use Rattle.std.specs.Option.{option_map}
 use Rattle.gdp_grammar.specs.declared.cause.ReadCause.{ReadCause}
 use Rattle.gdp_grammar.specs.declared.symbol.Symbol.TheVariants.{Open, Close, Comma}
+use Rattle.gdp_grammar.specs.Causes.{result_map}
 use Rattle.gdp_grammar.specs.Keywords.{is_reserved}
 use Rattle.gdp_grammar.specs.Numerals.{Whole}
 use Rattle.gdp_grammar.specs.PropTexts.{Operator}
@@ -23,11 +24,6 @@ mapped f (opens operator) = opens operator
 mapped f (counts c) = counts c
 mapped f (parts operator) = parts operator
 mapped f (has p) = has (f p)
-
--- what f gives, where there is a result
-abbrev pub result_map : {P Q : Type 0} → (P → Q) → Result P ReadCause → Result Q ReadCause
-result_map f (Ok p) = Ok (f p)
-result_map f (Err c) = Err c
 
 -- the same stack and place, with what f and g give
 abbrev pub mapped_at : {P O Q R : Type 0} → (P → Q) → (O → R) → List O × Place P → List R × Place Q

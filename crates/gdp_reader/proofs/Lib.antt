@@ -12,7 +12,6 @@ pub mod NameWords
 pub mod PointEnds
 pub mod PropSteps
 pub mod PropJoints
-pub mod PropFused
 pub mod PropSizing
 pub mod PropTurns
 pub mod PropNumbers

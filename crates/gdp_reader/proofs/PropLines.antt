@@ -18,8 +18,8 @@ use Rattle.gdp_reader.specs.declared.fault.LineError.TheVariants.{Refused, Memor
 use Rattle.gdp_reader.specs.declared.measure.Size.{Size}
 use Rattle.gdp_reader.specs.Gives.{Fails, Gives}
 use Rattle.gdp_reader.specs.LogicLines.{kept, kept_tree, line_tree}
-use Rattle.gdp_reader.specs.Mapped.{result_map}
-use Rattle.gdp_reader.specs.PropSizes.{named_greatest, named_depth, named_nodes, named_most}
+use Rattle.gdp_grammar.specs.Causes.{result_map}
+use Rattle.gdp_grammar.specs.PropSizes.{named_greatest, named_depth, named_nodes, named_most}
 use Rattle.gdp_reader.specs.SizeCauses.{refusal_by, refusal_of_size, refusal_of_named}
 use Rattle.gdp_reader.specs.Sizes.{size_of}
 use Rattle.gdp_reader.specs.Trees.{capped_tree}

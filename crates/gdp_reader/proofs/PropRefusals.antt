@@ -6,7 +6,7 @@ use Rattle.gdp_grammar.specs.declared.cause.ReadCause.{ReadCause}
 use Rattle.gdp_grammar.specs.declared.cause.ReadCause.TheVariants.{NameUnknown, Number, Nesting, Limit}
 use Rattle.gdp_grammar.specs.PropNames.{are_known}
 use Rattle.gdp_grammar.specs.PropTexts.{NamedProp}
-use Rattle.gdp_reader.specs.PropSizes.{named_greatest, named_depth, named_nodes, named_most}
+use Rattle.gdp_grammar.specs.PropSizes.{named_greatest, named_depth, named_nodes, named_most}
 use Rattle.gdp_reader.specs.SizeCauses.{refusal_of_size, refusal_of_named}
 use Rattle.gdp_reader.specs.Sizes.{size_of}
 

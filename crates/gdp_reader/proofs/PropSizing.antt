@@ -9,10 +9,10 @@ use Rattle.gdp_grammar.specs.PropReading.{wants, made_of, arguments, application
 use Rattle.gdp_grammar.specs.PropTexts.{Operator, negation, pair, all, some, counted, NamedProp, applied, argument_count, takes}
 use Rattle.gdp_grammar.specs.Tokens.{Piece}
 use Rattle.gdp_reader.specs.declared.measure.Size.{Size}
-use Rattle.gdp_reader.specs.Mapped.{result_map}
-use Rattle.gdp_reader.specs.PropSizes.{named_depth, named_depth_within, named_nodes, named_nodes_within, named_most, named_most_within, number_in, named_greatest, named_greatest_within}
+use Rattle.gdp_grammar.specs.Causes.{result_map}
+use Rattle.gdp_grammar.specs.PropSizes.{named_depth, named_depth_within, named_nodes, named_nodes_within, named_most, named_most_within, number_in, named_greatest, named_greatest_within}
 use Rattle.gdp_reader.specs.Sizes.{operator_end, count_end, size_of, Measured, with_size, joined_size, whole_size, closed_size, by_sizes}
-use Rattle.gdp_reader.proofs.PropFused.{Follows, fused}
+use Rattle.gdp_grammar.proofs.PropFusion.{IsHomomorphism, made_fused}
 
 -- a size by its parts
 abbrev sized : Bool → ℕ → ℕ → ℕ → ℕ → Size
@@ -124,14 +124,14 @@ closes_size booleans o ps =
     by true = refl
     by false = refl
 
-sizes_follow : (booleans : List BooleanValue) → Follows by_names (by_sizes booleans) (size_of booleans) (measured booleans)
+sizes_follow : (booleans : List BooleanValue) → IsHomomorphism by_names (by_sizes booleans) (size_of booleans) (measured booleans)
 sizes_follow booleans = record {
-  names = λ name. refl;
-  opens_same = λ o. refl;
-  joins = λ o p. joins_size booleans o.0 o.1 p;
-  closes = λ o. closes_size booleans o.0 o.1;
+  of_name = λ name. refl;
+  opened = λ o. refl;
+  with_argument = λ o p. sym (joins_size booleans o.0 o.1 p);
+  closed = λ o. sym (closes_size booleans o.0 o.1);
 }
 
 pub sizes_made : (booleans : List BooleanValue) (ps : List Piece) → made_of (by_sizes booleans) [] wants ps ≡ result_map (size_of booleans) (prop_of ps)
 unfolding prop_of
-sizes_made booleans ps = fused by_names (by_sizes booleans) (size_of booleans) (measured booleans) (sizes_follow booleans) ps [] wants
+sizes_made booleans ps = made_fused by_names (by_sizes booleans) (size_of booleans) (measured booleans) (sizes_follow booleans) [] wants ps

@@ -10,10 +10,10 @@ use Rattle.gdp_grammar.specs.PropNames.{counting_connective, combined, tree_in, 
 use Rattle.gdp_grammar.specs.PropReading.{wants, made_of, arguments, application, by_names, prop_of}
 use Rattle.gdp_grammar.specs.PropTexts.{Operator, negation, pair, all, some, counted, NamedProp, named, applied, NamedProps, no_arguments, argument, takes}
 use Rattle.gdp_grammar.specs.Tokens.{Piece}
-use Rattle.gdp_reader.specs.Mapped.{result_map}
-use Rattle.gdp_reader.specs.PropSizes.{number_in, named_greatest, named_greatest_within}
+use Rattle.gdp_grammar.specs.Causes.{result_map}
+use Rattle.gdp_grammar.specs.PropSizes.{number_in, named_greatest, named_greatest_within}
 use Rattle.gdp_reader.specs.Trees.{capped_combined, capped_tree, capped_trees, OpenTree, closed_tree, by_trees}
-use Rattle.gdp_reader.proofs.PropFused.{Follows, fused}
+use Rattle.gdp_grammar.proofs.PropFusion.{IsHomomorphism, made_fused}
 
 -- an open operator, with the trees of its arguments
 abbrev planted : List BooleanValue → Operator × List NamedProp → OpenTree
@@ -47,17 +47,17 @@ closes_tree booleans o ps =
     by true = refl
     by false = refl
 
-trees_follow : (booleans : List BooleanValue) → Follows by_names (by_trees booleans) (capped_tree booleans) (planted booleans)
+trees_follow : (booleans : List BooleanValue) → IsHomomorphism by_names (by_trees booleans) (capped_tree booleans) (planted booleans)
 trees_follow booleans = record {
-  names = λ name. refl;
-  opens_same = λ o. refl;
-  joins = λ o p. joins_tree booleans o.0 o.1 p;
-  closes = λ o. closes_tree booleans o.0 o.1;
+  of_name = λ name. refl;
+  opened = λ o. refl;
+  with_argument = λ o p. sym (joins_tree booleans o.0 o.1 p);
+  closed = λ o. sym (closes_tree booleans o.0 o.1);
 }
 
 pub trees_made : (booleans : List BooleanValue) (ps : List Piece) → made_of (by_trees booleans) [] wants ps ≡ result_map (capped_tree booleans) (prop_of ps)
 unfolding prop_of
-trees_made booleans ps = fused by_names (by_trees booleans) (capped_tree booleans) (planted booleans) (trees_follow booleans) ps [] wants
+trees_made booleans ps = made_fused by_names (by_trees booleans) (capped_tree booleans) (planted booleans) (trees_follow booleans) [] wants ps
 
 -- where each number is small, the tree is that of the proposition
 combined_small : (o : Operator) (ts : PropTrees) → number_in o ≤ 1000 → capped_combined o ts ≡ combined o ts

@@ -4,11 +4,9 @@ pub mod Gives
 pub mod Heads
 pub mod Lines
 pub mod LogicLines
-pub mod Mapped
 pub mod Operators
 pub mod PointLines
 pub mod PointTaking
-pub mod PropSizes
 pub mod Ranges
 pub mod SizeCauses
 pub mod Sizes

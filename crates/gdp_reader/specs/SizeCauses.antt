@@ -6,7 +6,7 @@ use Rattle.gdp_grammar.specs.declared.cause.ReadCause.TheVariants.{NameUnknown, 
 use Rattle.gdp_grammar.specs.PropNames.{are_known}
 use Rattle.gdp_grammar.specs.PropTexts.{NamedProp}
 use Rattle.gdp_reader.specs.declared.measure.Size.{Size}
-use Rattle.gdp_reader.specs.PropSizes.{named_greatest, named_depth, named_nodes, named_most}
+use Rattle.gdp_grammar.specs.PropSizes.{named_greatest, named_depth, named_nodes, named_most}
 
 -- the cause against a name, a number, the depth, the nodes or the arguments, in this order
 abbrev pub refusal_by : Bool → ℕ → ℕ → ℕ → ℕ → Option ReadCause

@@ -7,7 +7,7 @@ use Rattle.gdp_grammar.specs.PropTexts.{Operator, NamedProp, takes}
 use Rattle.gdp_reader.specs.declared.measure.Frame.{Frame}
 use Rattle.gdp_reader.specs.declared.measure.Size.{Size}
 use Rattle.gdp_reader.specs.Operators.{operator_value}
-use Rattle.gdp_reader.specs.PropSizes.{named_depth, named_nodes, named_most, number_in, named_greatest}
+use Rattle.gdp_grammar.specs.PropSizes.{named_depth, named_nodes, named_most, number_in, named_greatest}
 
 -- a number as far as that of an operator goes
 abbrev pub operator_end : ℕ → ℕ

@@ -20,6 +20,7 @@ ghost use Rattle.gdp_grammar.specs.Reading.{
   with_var,
   with_goal,
   with_row,
+  with_logic,
   with_form,
 };
 ghost use Rattle.gdp_reader.specs.Building.{line_error};
@@ -29,7 +30,8 @@ ghost use Rattle.gdp_reader.specs.Tokens.{spelled};
 
 use crate::fault::LineError;
 use crate::form::{Form, Signed, Summand};
-use crate::token::Numeral;
+use crate::logic::line_prop;
+use crate::token::{Numeral, Tokens};
 use crate::value::{constant_value, end, signed_whole, value};
 use block_tree::{Bound, BuildError, Mode, ModelBuilder};
 use fractions::{Frac, Memory};
@@ -201,6 +203,25 @@ fn add_goal(
         return Err(LineError::Refused(ReadCause::Number));
     };
     match builder.goal(alloc, sense, terms.as_slice(), constant, line) {
+        Ok(()) => Ok(()),
+        Err(refusal) => Err(refused(refusal)),
+    }
+}
+
+/// Adds a proposition.
+fn add_logic(
+    alloc: Global,
+    builder: &mut ModelBuilder,
+    line: u32,
+    tokens: &Tokens<'_>,
+) -> Result<(), LineError>
+    ensures { Gives (λ _. stands_for builder.new) result (with_logic (stands_for builder.old) line tokens.now) }
+{
+    if builder.is_in_disjunction() {
+        return Err(LineError::Refused(ReadCause::Form));
+    }
+    let prop = line_prop(alloc, builder, tokens)?;
+    match builder.prop(alloc, &prop, line) {
         Ok(()) => Ok(()),
         Err(refusal) => Err(refused(refusal)),
     }

@@ -6,7 +6,7 @@ ghost use Rattle.gdp_grammar.specs.Numerals.{decimal};
 ghost use Rattle.gdp_grammar.specs.PropReading.{prop_of};
 ghost use Rattle.gdp_grammar.specs.PropTexts.{takes as takes_so_many};
 ghost use Rattle.gdp_reader.specs.Gives.{Gives};
-ghost use Rattle.gdp_reader.specs.Mapped.{result_map};
+ghost use Rattle.gdp_grammar.specs.Causes.{result_map};
 ghost use Rattle.gdp_reader.specs.Operators.{operator_table, operator_value};
 ghost use Rattle.gdp_reader.specs.Sizes.{
   operator_number,

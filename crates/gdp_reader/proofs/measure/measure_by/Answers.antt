@@ -2,7 +2,7 @@ use Rattle.std.proofs.Common.{ap, ◌∙◌, List, None, refl}
 use Rattle.block_tree.specs.Standing.{stands_for}
 use Rattle.gdp_grammar.specs.PropReading.{prop_of, made_of, wants}
 use Rattle.gdp_reader.specs.Heads.{head_value}
-use Rattle.gdp_reader.specs.Mapped.{result_map}
+use Rattle.gdp_grammar.specs.Causes.{result_map}
 use Rattle.gdp_reader.specs.declared.measure.Frame.{Frame}
 use Rattle.gdp_reader.specs.Sizes.{size_of, by_sizes, frame_value}
 use Rattle.gdp_reader.proofs.PropJoints.{inward}
