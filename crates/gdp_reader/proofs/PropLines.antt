@@ -1,5 +1,5 @@
 -- The proposition of a line, measured and then built.
-use Rattle.std.proofs.Common.{◌≡◌, ℕ, ◌≤◌, Bool, true, false, List, Option, Some, None, Result, Ok, Err, nat_le, not, ◌||◌, if◌then◌else◌, refl, ap, sym, subst, ◌∙◌, arith, inl, inr}
+use Rattle.std.proofs.Common.{◌≡◌, ℕ, ◌≤◌, Bool, true, false, List, Option, Some, None, Result, Ok, Err, nat_le, not, ◌||◌, if◌then◌else◌, ap, sym, subst, ◌∙◌, arith, inl, inr}
 use Rattle.std.proofs.lemmas.Bool.Decides.{nat_tests}
 use Rattle.propositions.specs.Tree.{PropTree}
 use Rattle.propositions.specs.View.{prop_tree}
