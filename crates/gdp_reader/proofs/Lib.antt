@@ -2,6 +2,7 @@ pub mod BuildingSteps
 pub mod Cuts
 pub mod Ends
 pub mod FirstLines
+pub mod LogicSteps
 pub mod Marks
 pub mod PointNumbers
 pub mod Ratios

@@ -220,7 +220,10 @@ fn add_logic(
     if builder.is_in_disjunction() {
         return Err(LineError::Refused(ReadCause::Form));
     }
-    let prop = line_prop(alloc, builder, tokens)?;
+    let prop = match line_prop(alloc, builder, tokens) {
+        Ok(prop) => prop,
+        Err(error) => return Err(error),
+    };
     match builder.prop(alloc, &prop, line) {
         Ok(()) => Ok(()),
         Err(refusal) => Err(refused(refusal)),
