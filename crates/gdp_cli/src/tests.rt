@@ -291,9 +291,21 @@ fn reads_logic_to_its_limits(rt: HostRuntime) {
     let deep =
         b"gdp 1\nvar x real 0 1\nboolean b\nlogic not(not(not(not(not(not(not(not(not(not(not(not(not(not(not(not(b))))))))))))))))\n";
     expect_format(&rt, deep, 0, Status::Text, b"", b"M: line 4: Nesting\n");
-    let read =
-        b"gdp 1\nvar x real 0 1\nboolean b\nmin 0\nlogic not(not(not(not(not(not(not(not(not(not(not(not(not(not(not(b)))))))))))))))\n";
-    expect_format(&rt, read, 0, Status::Done, read, b"");
+    let given = Given {
+        model: b"gdp 1\nvar x real 0 1\nboolean b\nlogic not(not(not(not(not(not(not(not(not(not(not(not(not(not(not(b)))))))))))))))\n",
+        point: b"gdp-point 1\nover 1\nval x 0\nend\n",
+        shelf_fails: 0,
+        out_fails: 0,
+        err_fails: 0,
+    };
+    expect(
+        &rt,
+        &["test", "M", "P"],
+        &given,
+        Status::Done,
+        b"holds\n",
+        b"",
+    );
     let loose = b"gdp 1\nvar x real 0 1\nboolean p\nlogic exactly(01,p , not( p ))\n";
     let plain = b"gdp 1\nvar x real 0 1\nboolean p\nmin 0\nlogic exactly(1, p, not(p))\n";
     expect_format(&rt, loose, 0, Status::Done, plain, b"");
