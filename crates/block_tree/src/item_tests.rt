@@ -48,25 +48,23 @@ fn reading(model: &Model, place: u32, truths: &[Tri]) -> Result<Tri, Fail> {
 
 #[test]
 fn conditions_stand_in_the_order_of_the_text(rt: HostRuntime) -> Result<(), Fail> {
-    let alloc = rt.alloc();
-    let model = model(alloc)?;
+    let model = model(rt.alloc())?;
     assert_eq!(rt; item_count(&model), 4);
+    // The place of an item, what is known of the Booleans, and of its condition.
     let table = [
-        ([O, O, O, O, O, O], [O, O, O, O]),
-        ([Y, N, Y, Y, Y, O], [N, Y, Y, N]),
-        ([N, O, Y, Y, N, O], [Y, Y, N, Y]),
-        ([O, O, N, Y, O, N], [O, N, Y, N]),
-        ([O, Y, N, N, O, Y], [Y, Y, Y, O]),
-        ([O, O, Y, Y, O, O], [O, Y, O, O]),
+        (0, [O, O, O, O, O, O], O),
+        (0, [Y, N, Y, Y, Y, O], N),
+        (0, [N, O, Y, Y, N, O], Y),
+        (1, [O, O, N, Y, O, N], N),
+        (1, [O, O, Y, Y, O, O], Y),
+        (2, [N, O, Y, Y, N, O], N),
+        (2, [O, O, N, Y, O, N], Y),
+        (3, [Y, N, Y, Y, Y, O], N),
+        (3, [N, O, Y, Y, N, O], Y),
+        (3, [O, Y, N, N, O, Y], O),
     ];
-    for (truths, want) in table {
-        let found = [
-            reading(&model, 0, &truths)?,
-            reading(&model, 1, &truths)?,
-            reading(&model, 2, &truths)?,
-            reading(&model, 3, &truths)?,
-        ];
-        assert_eq!(rt; found, want, "{truths:?}");
+    for (place, truths, want) in table {
+        assert_eq!(rt; reading(&model, place, &truths)?, want);
     }
     Ok(())
 }
