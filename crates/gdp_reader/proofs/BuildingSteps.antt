@@ -1,8 +1,8 @@
 -- What a line adds to the model that is being built.
 use Rattle.std.proofs.Common.{◌≡◌, ℕ, false, ◌<◌, ◌+◌, length, get_or, drop, map, List, [], ◌∷◌, ◌++◌, Option, Some, None, Result, Ok, Err, refl, ap, sym, ◌∙◌}
 use Rattle.std.proofs.lemmas.List.{append_assoc, drop_more, map-append}
-use Rattle.gdp_reader.specs.declared.form.Summand.{Summand as Term}
-use Rattle.gdp_reader.specs.Lines.{summand, named_summand}
+use Rattle.gdp_lines.specs.declared.form.Summand.{Summand as Term}
+use Rattle.gdp_lines.specs.Lines.{summand, named_summand}
 use Rattle.gdp_grammar.specs.declared.cause.ReadCause.{ReadCause}
 use Rattle.gdp_grammar.specs.declared.cause.ReadCause.TheVariants as cause
 use Rattle.gdp_grammar.specs.Causes.{◌>>=◌}

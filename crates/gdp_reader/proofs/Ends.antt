@@ -11,7 +11,7 @@ use Rattle.gdp_grammar.specs.Spelling.{Spells}
 use Rattle.gdp_grammar.proofs.Followed.{spelled, given, first_bad}
 use Rattle.gdp_reader.specs.declared.error.ReadError.{ReadError}
 use Rattle.gdp_reader.specs.declared.error.ReadError.TheVariants as error
-use Rattle.gdp_reader.specs.declared.fault.LineError.TheVariants.{Refused}
+use Rattle.gdp_lines.specs.declared.fault.LineError.TheVariants.{Refused}
 use Rattle.gdp_reader.specs.Building.{line_error}
 use Rattle.gdp_reader.specs.Taking.{GivesText, IsReadAs, IsRefused}
 use Rattle.std.specs.Prelude.{IfOk, IfErr}

@@ -21,12 +21,12 @@ use Rattle.gdp_grammar.specs.Reading.{cause_of, after_call, with_logic}
 use Rattle.gdp_grammar.specs.Tokens.{Piece}
 use Rattle.gdp_grammar.proofs.PropMachine.{prop_back}
 use Rattle.gdp_grammar.proofs.PropSizes.{depth_same, nodes_same, most_same, greatest_same, none_empty, ids_known}
-use Rattle.gdp_reader.specs.declared.fault.LineError.{LineError}
-use Rattle.gdp_reader.specs.declared.fault.LineError.TheVariants.{Refused, Memory}
+use Rattle.gdp_lines.specs.declared.fault.LineError.{LineError}
+use Rattle.gdp_lines.specs.declared.fault.LineError.TheVariants.{Refused, Memory}
 use Rattle.gdp_reader.specs.Building.{line_error}
-use Rattle.gdp_reader.specs.Gives.{Fails}
-use Rattle.gdp_reader.specs.LogicLines.{kept, kept_tree, line_tree}
-use Rattle.gdp_reader.specs.SizeCauses.{refusal_of_named}
+use Rattle.gdp_lines.specs.Gives.{Fails}
+use Rattle.prop_reader.specs.LogicLines.{kept, kept_tree, line_tree}
+use Rattle.prop_reader.specs.SizeCauses.{refusal_of_named}
 
 -- what follows a proposition that is read
 abbrev pub added : BuildingValue → ℕ → NamedProp → Result BuildingValue ReadCause

@@ -6,8 +6,8 @@ use Rattle.std.proofs.lemmas.Bool.Decides.{nat_tests}
 use Rattle.block_tree.specs.Variables.{VarValue}
 use Rattle.gdp_grammar.specs.Reading.{id_of, named, stands_in, has_twice}
 use Rattle.gdp_grammar.proofs.Twice.{stands_push, stands_push_none, twice_push, twice_push_none, twice_more}
-use Rattle.gdp_reader.specs.declared.form.Summand.{Summand}
-use Rattle.gdp_reader.specs.Lines.{summand}
+use Rattle.gdp_lines.specs.declared.form.Summand.{Summand}
+use Rattle.gdp_lines.specs.Lines.{summand}
 use Rattle.gdp_reader.proofs.BuildingSteps.{no_term}
 
 -- of the n variables just those that stand in the list are marked

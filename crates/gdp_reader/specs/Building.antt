@@ -2,8 +2,8 @@
 use Rattle.block_tree.specs.declared.errors.BuildError.{BuildError}
 use Rattle.block_tree.specs.declared.errors.BuildError.TheVariants as refusal
 use Rattle.gdp_grammar.specs.Reading.{cause_of}
-use Rattle.gdp_reader.specs.declared.fault.LineError.{LineError}
-use Rattle.gdp_reader.specs.declared.fault.LineError.TheVariants.{Refused, Memory}
+use Rattle.gdp_lines.specs.declared.fault.LineError.{LineError}
+use Rattle.gdp_lines.specs.declared.fault.LineError.TheVariants.{Refused, Memory}
 
 -- the line's error: want of memory, or the cause of the refusal
 abbrev pub line_error : BuildError → LineError

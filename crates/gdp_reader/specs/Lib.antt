@@ -1,15 +1,4 @@
 pub mod Building
 pub mod Denominators
-pub mod Gives
-pub mod Heads
-pub mod Lines
-pub mod LogicLines
-pub mod Operators
-pub mod PointLines
 pub mod PointTaking
-pub mod Ranges
-pub mod SizeCauses
-pub mod Sizes
 pub mod Taking
-pub mod Tokens
-pub mod Trees

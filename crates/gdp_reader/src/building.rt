@@ -24,19 +24,19 @@ ghost use Rattle.gdp_grammar.specs.Reading.{
   with_form,
 };
 ghost use Rattle.gdp_reader.specs.Building.{line_error};
-ghost use Rattle.gdp_reader.specs.Gives.{Gives};
-ghost use Rattle.gdp_reader.specs.Lines.{signed, summand, named_summand, form};
-ghost use Rattle.gdp_reader.specs.Tokens.{spelled};
+ghost use Rattle.gdp_lines.specs.Gives.{Gives};
+ghost use Rattle.gdp_lines.specs.Lines.{signed, summand, named_summand, form};
+ghost use Rattle.gdp_lines.specs.Tokens.{spelled};
 
-use crate::fault::LineError;
-use crate::form::{Form, Signed, Summand};
-use crate::logic::line_prop;
-use crate::token::{Numeral, Tokens};
-use crate::value::{constant_value, end, signed_whole, value};
 use block_tree::{Bound, BuildError, Mode, ModelBuilder};
 use fractions::{Frac, Memory};
 use gdp_grammar::ReadCause;
+use gdp_lines::fault::LineError;
+use gdp_lines::form::{Form, Signed, Summand};
+use gdp_lines::token::{Numeral, Tokens};
+use gdp_lines::value::{constant_value, end, signed_whole, value};
 use lp_rows::{Kind, Rel, Sense};
+use prop_reader::logic::line_prop;
 use std::alloc::Global;
 
 /// The cause of a refusal of the builder.

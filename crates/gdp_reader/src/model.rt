@@ -8,18 +8,18 @@ ghost use Rattle.gdp_grammar.specs.Reading.{nothing_taken, with_header, with_tok
 ghost use Rattle.gdp_grammar.specs.Spelling.{Spells};
 ghost use Rattle.gdp_grammar.specs.Tokens.{tokens_of};
 ghost use Rattle.gdp_grammar.specs.Words.{words_of};
-ghost use Rattle.gdp_reader.specs.Gives.{Gives};
+ghost use Rattle.gdp_lines.specs.Gives.{Gives};
 ghost use Rattle.gdp_reader.specs.Taking.{taken_of, GivesText, IsReadAs, IsRefused};
 
 use crate::building::{add, refused};
 use crate::error::ReadError;
-use crate::fault::LineError;
-use crate::form::read_form;
-use crate::line::{first_line, without_comment};
-use crate::token::Tokens;
-use crate::word::{are_words, is_blank};
 use block_tree::{Model, ModelBuilder};
 use gdp_grammar::ReadCause;
+use gdp_lines::fault::LineError;
+use gdp_lines::form::read_form;
+use gdp_lines::line::{first_line, without_comment};
+use gdp_lines::token::Tokens;
+use gdp_lines::word::{are_words, is_blank};
 use std::alloc::Global;
 
 /// What the lines so far gave.

@@ -13,12 +13,12 @@ ghost use Rattle.gdp_reader.specs.PointTaking.{point_taken_of, point_parts, IsPo
 ghost use Rattle.gdp_reader.specs.Taking.{GivesText};
 
 use crate::error::ReadError;
-use crate::fault::LineError;
-use crate::line::first_line;
 use crate::point_taking::PointTaking;
 use block_tree::{Model, ModelPoint};
 use fractions::Memory;
 use gdp_grammar::ReadCause;
+use gdp_lines::fault::LineError;
+use gdp_lines::line::first_line;
 use lp_rows::{Flags, Point, PointError};
 use std::alloc::Global;
 

@@ -20,17 +20,17 @@ ghost use Rattle.gdp_grammar.specs.PointReading.{
 };
 ghost use Rattle.gdp_grammar.specs.Words.{words_of};
 ghost use Rattle.gdp_reader.specs.Denominators.{is_denominator};
-ghost use Rattle.gdp_reader.specs.Gives.{Gives};
-ghost use Rattle.gdp_reader.specs.PointLines.{integer, point_form};
+ghost use Rattle.gdp_lines.specs.Gives.{Gives};
+ghost use Rattle.gdp_lines.specs.PointLines.{integer, point_form};
 
-use crate::fault::LineError;
-use crate::integer::{integer_value, over_value};
-use crate::line::without_comment;
-use crate::point_form::{Integer, PointForm, read_point_form};
-use crate::word::{are_words, is_blank};
 use block_tree::Model;
 use fractions::Memory;
 use gdp_grammar::ReadCause;
+use gdp_lines::fault::LineError;
+use gdp_lines::integer::{integer_value, over_value};
+use gdp_lines::line::without_comment;
+use gdp_lines::point_form::{Integer, PointForm, read_point_form};
+use gdp_lines::word::{are_words, is_blank};
 use std::alloc::Global;
 
 /// What the lines so far gave, of a point of the model.

@@ -1,7 +1,7 @@
 use Rattle.std.proofs.Common.{◌≡◌, map, drop}
 use Rattle.block_tree.specs.Standing.{stands_for}
 use Rattle.gdp_grammar.specs.Reading.{known_terms}
-use Rattle.gdp_reader.specs.Lines.{summand, named_summand}
+use Rattle.gdp_lines.specs.Lines.{summand, named_summand}
 use Rattle.gdp_reader.proofs.BuildingSteps.{with_terms}
 use Rattle.gdp_reader.proofs.building.known.Given as goal
 

@@ -1,6 +1,6 @@
 use Rattle.std.proofs.Common.{◌≡◌, map, drop}
 use Rattle.gdp_grammar.specs.Reading.{valued_terms}
-use Rattle.gdp_reader.specs.Lines.{named_summand}
+use Rattle.gdp_lines.specs.Lines.{named_summand}
 use Rattle.gdp_reader.proofs.BuildingSteps.{with_terms}
 use Rattle.gdp_reader.proofs.building.valued.Given as goal
 

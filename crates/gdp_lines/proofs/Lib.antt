@@ -1,0 +1,7 @@
+pub mod Cuts
+pub mod FirstLines
+pub mod NameWords
+pub mod Ratios
+pub mod Reading
+pub mod SumSteps
+pub mod Values

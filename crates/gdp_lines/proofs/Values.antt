@@ -1,0 +1,86 @@
+-- The values of numbers, digit by digit.
+use Rattle.std.proofs.Common.{◌≡◌, ℕ, ◌+◌, ◌-◌, ◌*◌, ◌^◌, ◌<◌, ◌≤◌, List, [], ◌∷◌, length, get_or, drop, Some, None, nat_le, false, ◌&&◌, ℤ, pos, ◌⊎◌, inl, inr, refl, ap, sym, ◌∙◌, arith}
+use Rattle.std.proofs.lemmas.List.{drop_more}
+use Rattle.std.proofs.lemmas.Bool.{cond-true, cond-false}
+use Rattle.std.proofs.lemmas.Bool.Decides.{nat_tests}
+use Rattle.std.specs.Prelude.{unsigned_abs, FitsSigned}
+use Rattle.std.specs.Int.{IsGcd, w128}
+use Rattle.std.proofs.lemmas.Int.{ints}
+use Rattle.std.proofs.lemmas.Bool.{false≢true}
+use Rattle.std.proofs.Math.Nat.{one-dvd, pow-le-pow_right}
+use Rattle.gdp_grammar.proofs.Cutting.{told}
+use Rattle.fractions.specs.Fraction.{Fraction, IsReduced, fraction_fits}
+use Rattle.fractions.specs.Width.{fits}
+use Rattle.fractions.proofs.Reduction.{reduced_same}
+use Rattle.fractions.proofs.Widths.{fits_from_range}
+use Rattle.gdp_grammar.specs.Numerals.{decimal}
+use Rattle.gdp_lines.specs.Ranges.{in_range}
+
+-- digits make a number no less
+pub decimal_grows : (n : ℕ) (ds : List ℕ) → n ≤ decimal n ds
+decimal_grows n [] = omega arith
+decimal_grows n (d ∷ ds) = omega (arith, decimal_grows (n * 10 + (d - 48)) ds)
+
+pub decimal_more : (digits : List ℕ) (i n : ℕ) → i < length digits → decimal n (drop i digits) ≡ decimal (n * 10 + (get_or digits i 0 - 48)) (drop (i + 1) digits)
+decimal_more digits i n within = ap (decimal n) (drop_more digits i 0 within)
+
+pub past_range : (size : ℕ) → 10 ^ 15 < size → in_range size ≡ None
+past_range size past = cond-false (nat_le size (10 ^ 15)) (Some size) None (grind (arith, nat_tests))
+
+pub within_range : (size : ℕ) → size ≤ 10 ^ 15 → in_range size ≡ Some size
+within_range size within = cond-true (nat_le size (10 ^ 15)) (Some size) None (grind (arith, nat_tests))
+
+-- Past the range it stays, whatever digits follow.
+pub stays_past : (size whole : ℕ) (rest : List ℕ) → decimal size rest ≡ whole → 10 ^ 15 < size → in_range whole ≡ None
+stays_past size whole rest same past = past_range whole (omega (arith, same, past, decimal_grows size rest))
+
+-- a whole number over 1 is in lowest terms, and is the only one that is equal to it
+gcd_of_one : (n : ℕ) → IsGcd n 1 1
+gcd_of_one n = (one-dvd n, one-dvd 1, λ d p q. q)
+
+pub whole_lowest : (n : ℤ) → IsReduced n (pos 1) (record { num = n; den = pos 1 })
+whole_lowest n = record {
+  divisible = λ e. cc e;
+  lowest = record { positive = omega (arith, ints); coprime = gcd_of_one (unsigned_abs n) };
+  same = refl;
+}
+
+pub whole_only : (n : ℤ) (f : Fraction) → IsReduced n (pos 1) f → f ≡ record { num = n; den = pos 1 }
+whole_only n f reduced = reduced_same n (pos 1) f (record { num = n; den = pos 1 }) reduced (whole_lowest n)
+
+one_not_zero : pos 1 ≡ pos 0 → ⊥
+one_not_zero e = absurd (omega (arith, ints, e))
+
+pub never_refused : (n : ℤ) → FitsSigned w128 n → (pos 1 ≡ pos 0) ⊎ ((f : Fraction) × IsReduced n (pos 1) f × (fraction_fits f ≡ false)) → ⊥
+never_refused n fit (inl e) = one_not_zero e
+never_refused n fit (inr f) =
+    let same : fraction_fits (record { num = n; den = pos 1 }) ≡ false = sym (ap fraction_fits (whole_only n f.0 f.1)) ∙ f.2 in
+    false≢true (sym same ∙ ap (λ b. b && fits (pos 1)) (fits_from_range n fit))
+
+-- a part that is not in range
+pub none_past : (size : ℕ) → None ≡ in_range size → 10 ^ 15 < size
+none_past size none = elim (told (nat_le size (10 ^ 15))) [
+  | inl t ↦ absurd (cc (none, cond-true (nat_le size (10 ^ 15)) (Some size) None t))
+  | inr f ↦ grind (arith, nat_tests)
+]
+
+some_within : (size part : ℕ) → Some part ≡ in_range size → (part ≡ size) × (size ≤ 10 ^ 15)
+some_within size part some = elim (told (nat_le size (10 ^ 15))) [
+  | inl t ↦
+      let both : Some part ≡ Some size = some ∙ cond-true (nat_le size (10 ^ 15)) (Some size) None t in
+      (cc both, grind (arith, nat_tests))
+  | inr f ↦ absurd (cc (some, cond-false (nat_le size (10 ^ 15)) (Some size) None f))
+]
+
+-- a number past the range stays past it with places behind it
+pub past_with : (size : ℕ) (places : List ℕ) → None ≡ in_range size → None ≡ in_range (decimal size places)
+past_with size places none = sym (stays_past size (decimal size places) places refl (none_past size none))
+
+-- powers of ten
+pub power_past : (k : ℕ) → 15 < k → None ≡ in_range (10 ^ k)
+power_past k many =
+    let big : 10 ^ 16 ≤ 10 ^ k = pow-le-pow_right (omega arith) {i = 16} {j = k} (omega (arith, many)) in
+    sym (past_range (10 ^ k) (omega (arith, big)))
+
+pub power_within : (k : ℕ) → k ≤ 15 → Some (10 ^ k) ≡ in_range (10 ^ k)
+power_within k few = sym (within_range (10 ^ k) (pow-le-pow_right (omega arith) {i = k} {j = 15} few))

@@ -1,0 +1,5 @@
+pub mod Gives
+pub mod Lines
+pub mod PointLines
+pub mod Ranges
+pub mod Tokens

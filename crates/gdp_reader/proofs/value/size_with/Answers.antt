@@ -1,6 +1,0 @@
-use Rattle.gdp_grammar.specs.Numerals.{decimal}
-use Rattle.gdp_reader.proofs.Values.{past_with}
-use Rattle.gdp_reader.proofs.value.size_with.Goals as goal
-
-pub returns-in-None : goal.returns-in-None
-returns-in-None c = past_with (decimal 0 c.args.digits.now) c.args.places.now c.in-None.ensures
