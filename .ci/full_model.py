@@ -1,6 +1,6 @@
 #!/usr/bin/env python3
 """The largest model that the limits let a planner write: 500 variables, 200 indicators nested eight deep, 1,000 rows with a
-term of each variable, 8,388,608 bytes.
+term of each variable, propositions of 5,000 names and connectives, 8,388,608 bytes.
 
 `full_model.py FOLDER` writes `full.gdp`, `full.point`, at which its last row holds with nothing to spare, and
 `full-fails.point`, at which the last row, on line `LAST`, is one short.
@@ -15,9 +15,10 @@ VARIABLES = 500
 ROWS = 1_000
 CHAINS = 25
 DEPTH = 8
-# Of each block the lines that open it, its rows, and the lines that close it.
+NODES = 5_000
+# Of each block the lines that open it, its rows, its proposition, and the lines that close it.
 PER_BLOCK = ROWS // (CHAINS * DEPTH)
-LAST = 1 + VARIABLES + CHAINS * DEPTH * (2 + PER_BLOCK) + (CHAINS - 1) * DEPTH * 2
+LAST = 1 + VARIABLES + CHAINS * DEPTH * (2 + PER_BLOCK) + (CHAINS - 1) * DEPTH * 3
 
 
 def full_model():
@@ -27,7 +28,7 @@ def full_model():
     values = [draw.randint(1, 99) for _ in names]
     head = "gdp 1\n" + "".join(f"var {name} real 0 100\n" for name in names)
     opening = [f"disjunction or\ndisjunct b{k:03}\n" for k in range(CHAINS * DEPTH)]
-    closing = "end\nend\n"
+    closing = [f"{proposition(k)}end\nend\n" for k in range(CHAINS * DEPTH)]
 
     def row(digits, relation, right):
         numbers = [draw.randint(10 ** (n - 1), 10**n - 1) for n in digits]
@@ -38,7 +39,7 @@ def full_model():
     last = row([8] * VARIABLES, ">=", lambda numbers: sum(c * x for c, x in zip(numbers, values)))
     wide = 10**15 - 1
     least = len(row([8] * VARIABLES, "<=", lambda numbers: wide))
-    blocks = sum(map(len, opening)) + len(closing) * CHAINS * DEPTH
+    blocks = sum(map(len, opening + closing))
     spare = LIMIT - len(head) - blocks - len(last) - (ROWS - 1) * least
     rows = []
     for i in range(ROWS - 1):
@@ -48,9 +49,16 @@ def full_model():
     text = [head]
     for k, begin in enumerate(opening):
         text += [begin, *rows[k * PER_BLOCK : (k + 1) * PER_BLOCK]]
-        text += [closing * DEPTH] if (k + 1) % DEPTH == 0 else []
+        text += reversed(closing[k + 1 - DEPTH : k + 1]) if (k + 1) % DEPTH == 0 else []
     true = [f"b{k:03}" for k in range(CHAINS * DEPTH)]
     return "".join(text).encode(), point(names, values, true), point(names, [values[0] - 1] + values[1:], true)
+
+
+def proposition(block):
+    """Gives the line of a block's proposition: at least one of the Booleans up to the innermost below it, named in turns."""
+    known = block - block % DEPTH + DEPTH
+    atoms = NODES // (CHAINS * DEPTH) - 1
+    return f"logic atleast(1, {', '.join(f'b{j % known:03}' for j in range(atoms))})\n"
 
 
 def point(names, values, true=()):
