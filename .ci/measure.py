@@ -1,7 +1,7 @@
 #!/usr/bin/env python3
 """Measures the built program on the largest model, beside `cat` and `wc` on the same file, and prints a table.
 
-`measure.py [PROGRAM]` writes the model that `full_model.py` makes into a temporary folder, runs each command five times, in
+`measure.py [PROGRAM]` writes the model that `full_model.py` makes into a temporary folder, runs each command forty times, in
 turns, and prints the least wall time, the least processor time and the greatest peak of resident memory. What Linux counts as
 the peak begins with the memory of this process, some 10 MiB, so a peak is told only of what passes that.
 """
@@ -14,7 +14,7 @@ import tempfile
 import time
 
 ROOT = pathlib.Path(__file__).resolve().parent.parent
-TURNS = 5
+TURNS = 40
 
 
 def measured(command, folder):
