@@ -39,10 +39,3 @@ pub use points::ModelPoint;
 pub use satisfying::satisfies;
 pub use tree::{Block, Disjunct, Disjunction, Mode};
 pub use valuing::value;
-
-#[cfg(test)]
-mod item_tests;
-#[cfg(test)]
-mod prop_tests;
-#[cfg(test)]
-mod tests;

@@ -1,0 +1,62 @@
+//! What a script has made so far, and how a line changes it.
+
+use crate::asking::ask;
+use crate::building::build;
+use crate::words::{Trouble, frac, id, shown, split};
+use block_tree::{Model, ModelBuilder, is_name};
+use fractions::Frac;
+use propositions::Prop;
+use std::alloc::Global;
+
+/// A builder and a model, and the terms and propositions for its next call.
+#[derive(Drop)]
+pub struct Bench {
+    /// The builder.
+    pub builder: ModelBuilder,
+    /// The mark of its last call.
+    pub mark: u32,
+    /// The terms for the next row or goal.
+    pub terms: Vec<(u32, Frac)>,
+    /// Propositions, the innermost last.
+    pub props: Vec<Prop>,
+    /// The model that was finished last.
+    pub model: Option<Model>,
+}
+
+impl Bench {
+    /// An empty bench.
+    pub fn new(alloc: Global) -> Bench {
+        Bench {
+            builder: ModelBuilder::new(alloc),
+            mark: 1,
+            terms: Vec::new(alloc),
+            props: Vec::new(alloc),
+            model: None,
+        }
+    }
+}
+
+/// Plays a line, and says what it answers.
+pub fn play(alloc: Global, bench: &mut Bench, line: &str) -> Result<String, Trouble> {
+    if let Some(word) = line.strip_prefix("name ") {
+        return shown(alloc, &is_name(word));
+    }
+    let words = split(alloc, line)?;
+    match words.as_slice() {
+        [] => Ok(String::new(alloc)),
+        ["new"] => {
+            *bench = Bench::new(alloc);
+            Ok(String::new(alloc))
+        }
+        ["term", var, number] => {
+            bench.terms.push((id(var)?, frac(number)?))?;
+            Ok(String::new(alloc))
+        }
+        _ => {
+            if let Some(answer) = build(alloc, bench, words.as_slice())? {
+                return Ok(answer);
+            }
+            ask(alloc, bench, words.as_slice())
+        }
+    }
+}
