@@ -16,6 +16,3 @@ pub use form::{StandardForm, standard};
 pub use lifting::lift;
 pub use mults::Mults;
 pub use sizes::bounded;
-
-#[cfg(test)]
-mod tests;

@@ -21,6 +21,3 @@ pub use points::{Point, PointError};
 pub use rows::{
     Row, RowError, are_coefficients_storable, do_ids_ascend, has_zero_coefficient, is_storable,
 };
-
-#[cfg(test)]
-mod tests;
