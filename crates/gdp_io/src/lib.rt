@@ -27,6 +27,3 @@ pub use shelves::{Failed, ReadAllError, Shelf, read_all};
 pub use sinks::{Sink, WriteFault, write_all};
 pub use sure::{SureShelf, SureSink};
 pub use texts::Text;
-
-#[cfg(test)]
-mod tests;

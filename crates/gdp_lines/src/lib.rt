@@ -12,8 +12,6 @@ pub mod form;
 pub mod integer;
 pub mod line;
 pub mod point_form;
-#[cfg(test)]
-mod tests;
 pub mod token;
 pub mod value;
 pub mod word;

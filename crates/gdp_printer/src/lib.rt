@@ -14,6 +14,4 @@ mod props;
 mod sums;
 
 pub use models::model_text;
-
-#[cfg(test)]
-mod tests;
+pub use props::put_prop_line;

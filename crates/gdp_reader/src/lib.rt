@@ -9,12 +9,8 @@
 mod building;
 mod error;
 mod model;
-#[cfg(test)]
-mod model_tests;
 mod point;
 mod point_taking;
-#[cfg(test)]
-mod point_tests;
 
 pub use error::ReadError;
 pub use gdp_grammar::ReadCause;

@@ -1,21 +1,26 @@
 //! The lines that ask what a model says.
 
 use crate::bench::Bench;
-use crate::words::{Trouble, id, number, numbers, shown, tris, truths};
+use crate::words::{tri_text, tris};
 use block_tree::{
     Block, Model, SumWide, ValueWide, Verdict, item_count, item_tri, occurs, satisfies, value,
 };
-use gdp_printer::model_text;
-use gdp_tables::Tri;
+use gdp_io::Text;
+use gdp_printer::{model_text, put_prop_line};
 use lp_rows::Point;
-use propositions::{Prop, node_count};
+use propositions::Prop;
+use script::{Trouble, add_to, id, number, numbers, shown, terms_text, truths};
 use std::alloc::Global;
+use std::fmt;
 
 /// What these words ask.
-pub fn ask(alloc: Global, bench: &Bench, words: &[&str]) -> Result<String, Trouble> {
+pub fn ask(alloc: Global, bench: &mut Bench, words: &[&str]) -> Result<String, Trouble> {
     match words {
-        ["nodes"] => nodes(alloc, bench),
-        ["boolean_of_builder", name] => place(alloc, bench.builder.find_boolean(name)),
+        ["logic_line"] => match (bench.props.pop(), &bench.model) {
+            (Some(prop), Some(model)) => logic_line(alloc, model, prop),
+            _ => Err(Trouble::Line),
+        },
+        ["boolean_of_builder", name] => place(alloc, bench.builder.boolean_id(name)),
         _ => match &bench.model {
             Some(model) => ask_model(alloc, model, words),
             None => Err(Trouble::Line),
@@ -23,14 +28,7 @@ pub fn ask(alloc: Global, bench: &Bench, words: &[&str]) -> Result<String, Troub
     }
 }
 
-fn nodes(alloc: Global, bench: &Bench) -> Result<String, Trouble> {
-    match bench.props.last() {
-        Some(prop) => shown(alloc, &node_count(prop)),
-        None => Err(Trouble::Line),
-    }
-}
-
-fn place(alloc: Global, place: Option<usize>) -> Result<String, Trouble> {
+fn place<T: fmt::Display + Drop>(alloc: Global, place: Option<T>) -> Result<String, Trouble> {
     match place {
         Some(place) => shown(alloc, &place),
         None => shown(alloc, &"none"),
@@ -59,11 +57,7 @@ fn reading(alloc: Global, model: &Model, place: u32, word: &str) -> Result<Strin
     if item_count(model) <= place || model.booleans().len() != tris.len() {
         return Err(Trouble::Line);
     }
-    match item_tri(model, place, tris.as_slice()) {
-        Tri::Yes => shown(alloc, &"yes"),
-        Tri::No => shown(alloc, &"no"),
-        Tri::Open => shown(alloc, &"open"),
-    }
+    tri_text(alloc, item_tri(model, place, tris.as_slice()))
 }
 
 fn point(alloc: Global, model: &Model, over: &str, nums: &[&str]) -> Result<Point, Trouble> {
@@ -113,64 +107,66 @@ fn occurring(alloc: Global, model: &Model) -> Result<String, Trouble> {
     let mut text = String::new(alloc);
     for disjunction in model.root().disjunctions() {
         for id in &occurs(alloc, disjunction)? {
-            text.push_str(shown(alloc, id)?.as_str())?;
-            text.push_str(" ")?;
+            add_to(&mut text, shown(alloc, id)?.as_str())?;
         }
     }
     Ok(text)
 }
 
-fn terms(alloc: Global, terms: &[(u32, i128)]) -> Result<String, Trouble> {
-    let mut text = String::new(alloc);
-    for (var, number) in terms {
-        text.push_str(format!(in alloc; "{var}:{number} ")?.as_str())?;
-    }
-    Ok(text)
-}
-
 fn goal(alloc: Global, model: &Model) -> Result<String, Trouble> {
-    let terms = terms(alloc, model.terms())?;
+    let terms = terms_text(alloc, model.terms())?;
     let sense = model.sense();
     let (constant, scale, mark) = (model.constant(), model.scale(), model.goal_mark());
-    let text = format!(in alloc; "{sense:?} {terms}constant {constant} scale {scale} at {mark}")?;
+    let text = format!(in alloc; "{sense:?} {terms} constant {constant} scale {scale} at {mark}")?;
     Ok(text)
 }
 
 fn rows(alloc: Global, model: &Model) -> Result<String, Trouble> {
     let mut text = String::new(alloc);
     for (row, mark) in model.root().rows() {
-        text.push_str(terms(alloc, row.terms())?.as_str())?;
-        let right = row.right();
-        text.push_str(format!(in alloc; "right {right} at {mark} ")?.as_str())?;
+        let (terms, right) = (terms_text(alloc, row.terms())?, row.right());
+        let row = format!(in alloc; "{terms} right {right} at {mark}")?;
+        add_to(&mut text, row.as_str())?;
     }
     Ok(text)
 }
 
 // The atoms among the propositions of the root block and of the disjuncts in it.
 fn props(alloc: Global, model: &Model) -> Result<String, Trouble> {
-    let mut text = of_block(alloc, model.root())?;
+    let mut text = String::new(alloc);
+    add_atoms(alloc, &mut text, model.root())?;
     for disjunction in model.root().disjunctions() {
         for disjunct in disjunction.disjuncts() {
-            text.push_str(of_block(alloc, disjunct.block())?.as_str())?;
+            add_atoms(alloc, &mut text, disjunct.block())?;
         }
     }
     Ok(text)
 }
 
-fn of_block(alloc: Global, block: &Block) -> Result<String, Trouble> {
-    let mut text = String::new(alloc);
+fn add_atoms(alloc: Global, text: &mut String, block: &Block) -> Result<(), Trouble> {
     for (prop, mark) in block.props() {
         if let Prop::Atom(id) = prop {
-            text.push_str(format!(in alloc; "{id} at {mark} ")?.as_str())?;
+            add_to(text, format!(in alloc; "{id} at {mark}")?.as_str())?;
         }
     }
-    Ok(text)
+    Ok(())
 }
 
 // The text of a model.
 fn text(alloc: Global, model: &Model) -> Result<String, Trouble> {
-    let bytes = model_text(alloc, model)?;
-    match std::str::from_utf8(bytes.as_slice()) {
+    let text = model_text(alloc, model)?;
+    printed(alloc, &text)
+}
+
+// The line of the last proposition, which this takes.
+fn logic_line(alloc: Global, model: &Model, prop: Prop) -> Result<String, Trouble> {
+    let mut text = Text::new(alloc);
+    put_prop_line(alloc, &mut text, model, &(prop, 0))?;
+    printed(alloc, &text)
+}
+
+fn printed(alloc: Global, text: &Text) -> Result<String, Trouble> {
+    match std::str::from_utf8(text.as_slice()) {
         Ok(text) => shown(alloc, &text),
         Err(_) => Err(Trouble::Line),
     }

@@ -2,10 +2,11 @@
 
 use crate::asking::ask;
 use crate::building::build;
-use crate::words::{Trouble, frac, id, shown, split};
+use crate::logic::ask_prop;
 use block_tree::{Model, ModelBuilder, is_name};
 use fractions::Frac;
 use propositions::Prop;
+use script::{Trouble, first_word, frac, id, shown, split};
 use std::alloc::Global;
 
 /// A builder and a model, and the terms and propositions for its next call.
@@ -36,13 +37,20 @@ impl Bench {
     }
 }
 
-/// Plays a line, and says what it answers.
+/// Plays a line, and says what it answers. A line that begins with `#` heads those below it.
 pub fn play(alloc: Global, bench: &mut Bench, line: &str) -> Result<String, Trouble> {
-    if let Some(word) = line.strip_prefix("name ") {
-        return shown(alloc, &is_name(word));
+    if line.starts_with('#') {
+        return shown(alloc, &line);
     }
-    let words = split(alloc, line)?;
-    match words.as_slice() {
+    let (call, text) = first_word(line);
+    if call == "name" {
+        return shown(alloc, &is_name(text));
+    }
+    play_words(alloc, bench, split(alloc, line)?.as_slice())
+}
+
+fn play_words(alloc: Global, bench: &mut Bench, words: &[&str]) -> Result<String, Trouble> {
+    match words {
         [] => Ok(String::new(alloc)),
         ["new"] => {
             *bench = Bench::new(alloc);
@@ -53,10 +61,13 @@ pub fn play(alloc: Global, bench: &mut Bench, line: &str) -> Result<String, Trou
             Ok(String::new(alloc))
         }
         _ => {
-            if let Some(answer) = build(alloc, bench, words.as_slice())? {
+            if let Some(answer) = build(alloc, bench, words)? {
                 return Ok(answer);
             }
-            ask(alloc, bench, words.as_slice())
+            if let Some(answer) = ask_prop(alloc, bench, words)? {
+                return Ok(answer);
+            }
+            ask(alloc, bench, words)
         }
     }
 }

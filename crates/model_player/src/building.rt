@@ -1,10 +1,10 @@
 //! The lines that call a builder.
 
 use crate::bench::Bench;
-use crate::words::{Trouble, frac, id, said};
 use block_tree::{Bound, BuildError, Mode, ModelBuilder};
 use lp_rows::{Kind, Rel, Sense};
-use propositions::Prop;
+use propositions::{Prop, copy};
+use script::{Trouble, frac, id, shown};
 use std::alloc::Global;
 
 /// Makes the call that these words stand for, and says what it answers. None where they stand for none.
@@ -28,6 +28,14 @@ pub fn build(alloc: Global, bench: &mut Bench, words: &[&str]) -> Result<Option<
         }
     };
     Ok(Some(said(alloc, answer)?))
+}
+
+// What a call that answers nothing else says.
+fn said(alloc: Global, answer: Result<(), BuildError>) -> Result<String, Trouble> {
+    match answer {
+        Ok(()) => shown(alloc, &"ok"),
+        Err(error) => shown(alloc, &error),
+    }
 }
 
 // The bound of a word: a fraction, or none for another word.
@@ -143,6 +151,7 @@ fn stack(alloc: Global, bench: &mut Bench, words: &[&str]) -> Result<Option<Stri
     match words {
         ["atom", boolean, count] => atoms(bench, id(boolean)?, id(count)?)?,
         ["not", count] => not(alloc, bench, id(count)?)?,
+        ["copy"] => copied(alloc, bench)?,
         ["implies"] => implies(alloc, bench)?,
         ["xor"] => xor(alloc, bench)?,
         ["equivalent"] => equivalent(alloc, bench)?,
@@ -168,6 +177,13 @@ fn last(bench: &mut Bench) -> Result<Prop, Trouble> {
         Some(prop) => Ok(prop),
         None => Err(Trouble::Line),
     }
+}
+
+// Puts a copy in the place of the last proposition.
+fn copied(alloc: Global, bench: &mut Bench) -> Result<(), Trouble> {
+    let prop = copy(alloc, &last(bench)?)?;
+    bench.props.push(prop)?;
+    Ok(())
 }
 
 fn not(alloc: Global, bench: &mut Bench, count: u32) -> Result<(), Trouble> {

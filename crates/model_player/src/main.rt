@@ -1,19 +1,22 @@
-//! The program `model_player`: plays a script of calls on models, a line each, and prints what each call answers.
+//! The program `model_player`: plays a script of calls on models and propositions, a line each, and prints what
+//! each call answers.
 //!
 //! It is a test: the script stands in the file `stdin`, and the answers, which come from outside, in `stdout`.
-//! Read `words.rt` for the words of a line, then `bench.rt`, `building.rt` and `asking.rt`.
+//! Read `bench.rt` for what a script has made so far, then `building.rt` for the lines that make it, and `asking.rt`
+//! and `logic.rt` for those that ask.
 #![tactic(auto)]
 
 mod asking;
 mod bench;
 mod building;
+mod logic;
 mod words;
 
 use bench::{Bench, play};
+use script::Trouble;
 use std::io;
 use std::io::{Print, Read};
 use std::process::ExitCode;
-use words::Trouble;
 
 fn play_line(
     rt: &(impl Print + AllocGlobal),

@@ -11,7 +11,5 @@ pub mod head;
 pub mod logic;
 pub mod measure;
 pub mod operator;
-#[cfg(test)]
-mod prop_tests;
 
 pub use logic::line_prop;

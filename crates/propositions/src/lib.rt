@@ -16,6 +16,3 @@ pub use reading::{at_least_of, exactly_of, tri};
 pub use sizes::{depth, greatest_number, has_empty_list, most_arguments, node_count};
 pub use tree::Prop;
 pub use truths::{has_ids_below, truth};
-
-#[cfg(test)]
-mod tests;

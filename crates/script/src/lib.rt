@@ -11,4 +11,4 @@ pub mod words;
 
 pub use texts::{add_to, shown, terms_text};
 pub use trouble::Trouble;
-pub use words::{frac, id, number, numbers, split, terms, truths};
+pub use words::{first_word, frac, id, number, numbers, split, terms, truths};

@@ -10,6 +10,14 @@ pub fn split(alloc: Global, line: &str) -> Result<Vec<&str>, Trouble> {
     Ok(words)
 }
 
+/// The first word and what stands after the blank behind it.
+pub fn first_word(text: &str) -> (&str, &str) {
+    match text.split_once(' ') {
+        Some((word, rest)) => (word, rest),
+        None => (text, ""),
+    }
+}
+
 /// A whole number.
 pub fn number(word: &str) -> Result<i128, Trouble> {
     match word.parse::<i128>() {

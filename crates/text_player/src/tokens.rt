@@ -1,0 +1,110 @@
+//! The lines about the tokens of a line, and about how a text is cut into lines.
+
+use crate::words::{bytes, bytes_text};
+use block_tree::ModelBuilder;
+use gdp_lines::value::value;
+use gdp_lines::{Token, Tokens, are_words, first_line, without_comment};
+use prop_reader::build::build;
+use prop_reader::measure::{Size, measure};
+use propositions::{depth, greatest_number, most_arguments, node_count};
+use script::{Trouble, first_word, shown};
+use std::alloc::Global;
+
+// A builder with the Booleans p and q.
+fn builder(alloc: Global) -> Result<ModelBuilder, Trouble> {
+    let mut builder = ModelBuilder::new(alloc);
+    for name in ["p", "q"] {
+        if builder.boolean(alloc, name, 1).is_err() {
+            return Err(Trouble::Line);
+        }
+    }
+    Ok(builder)
+}
+
+/// The sizes of a proposition of p and q that is only measured, and then those of the one that is built.
+pub fn logic(alloc: Global, text: &str) -> Result<String, Trouble> {
+    let builder = builder(alloc)?;
+    let measured = match measure(alloc, &builder, &mut Tokens::new(text.as_bytes())) {
+        Ok(size) => size_text(alloc, &size)?,
+        Err(error) => format!(in alloc; "{error:?}")?,
+    };
+    let built = match build(alloc, &builder, &mut Tokens::new(text.as_bytes())) {
+        Ok(prop) => {
+            let (greatest, deep) = (greatest_number(&prop), depth(&prop));
+            let (nodes, most) = (node_count(&prop), most_arguments(&prop));
+            format!(in alloc; "{greatest} {deep} {nodes} {most}")?
+        }
+        Err(error) => format!(in alloc; "{error:?}")?,
+    };
+    let text = format!(in alloc; "{measured}, {built}")?;
+    Ok(text)
+}
+
+fn size_text(alloc: Global, size: &Size) -> Result<String, Trouble> {
+    let (known, greatest, depth) = (size.known, size.greatest, size.depth);
+    let (nodes, most) = (size.nodes, size.most);
+    let text = format!(in alloc; "{known} {greatest} {depth} {nodes} {most}")?;
+    Ok(text)
+}
+
+/// Whether each name in a proposition is p or q.
+pub fn known(alloc: Global, text: &str) -> Result<String, Trouble> {
+    let builder = builder(alloc)?;
+    match measure(alloc, &builder, &mut Tokens::new(text.as_bytes())) {
+        Ok(size) => shown(alloc, &size.known),
+        Err(_) => Err(Trouble::Line),
+    }
+}
+
+/// Measures so many negations of p, without and with the closing parentheses: depth, nodes and most arguments.
+pub fn deep(alloc: Global, count: u32) -> Result<String, Trouble> {
+    let builder = builder(alloc)?;
+    let mut text = String::new(alloc);
+    for _ in 0..count {
+        text.push_str("not(")?;
+    }
+    let open = match measure(alloc, &builder, &mut Tokens::new(text.as_bytes())) {
+        Ok(size) => size_text(alloc, &size)?,
+        Err(error) => format!(in alloc; "{error:?}")?,
+    };
+    text.push_str("p")?;
+    for _ in 0..count {
+        text.push_str(")")?;
+    }
+    let Ok(size) = measure(alloc, &builder, &mut Tokens::new(text.as_bytes())) else {
+        return Err(Trouble::Line);
+    };
+    let (depth, nodes, most) = (size.depth, size.nodes, size.most);
+    let text = format!(in alloc; "{open}, {depth} {nodes} {most}")?;
+    Ok(text)
+}
+
+/// What the number at the front of a text is worth behind a minus, or none.
+pub fn worth(alloc: Global, text: &str) -> Result<String, Trouble> {
+    let Some(Token::Number(number)) = Tokens::new(text.as_bytes()).next() else {
+        return shown(alloc, &"none");
+    };
+    match value(true, &number) {
+        Some(fraction) => {
+            let (num, den) = (fraction.num(), fraction.den());
+            let text = format!(in alloc; "{num}/{den}")?;
+            Ok(text)
+        }
+        None => shown(alloc, &"none"),
+    }
+}
+
+/// The first line of a text, the rest, and whether the line's words but for its comment are the two that lead.
+pub fn cut(alloc: Global, text: &str) -> Result<String, Trouble> {
+    let (first, text) = first_word(text);
+    let (second, text) = first_word(text);
+    let bytes = bytes(alloc, text)?;
+    if bytes.is_empty() {
+        return Err(Trouble::Line);
+    }
+    let (line, rest) = first_line(bytes.as_slice());
+    let are_these = are_words(without_comment(line), first.as_bytes(), second.as_bytes());
+    let (line, rest) = (bytes_text(alloc, line)?, bytes_text(alloc, rest)?);
+    let text = format!(in alloc; "{line} {rest} {are_these}")?;
+    Ok(text)
+}
