@@ -1,11 +1,13 @@
 -- A builder that is new is whole, and so is the model that is made of one.
-use Rattle.std.proofs.Common.{◌≡◌, ℕ, true, not, Option, Some, None, length, refl, ◌∙◌, arith}
+use Rattle.std.proofs.Common.{◌≡◌, ℕ, true, not, Option, Some, None, length, refl, arith}
 use Rattle.std.proofs.lemmas.List.Elements.{All-nil}
 use Rattle.std.specs.Option.{ForSome}
 use Rattle.fractions.specs.Memory.{refuse_if}
 use Rattle.block_tree.specs.declared.errors.BuildError.TheVariants.{Missing, Unclosed}
-use Rattle.block_tree.specs.Building.{BuildingValue, new_building, is_empty, is_at_root, refusal_of_finish, built_model, goal_of}
-use Rattle.block_tree.specs.Sound.{are_rows_below, are_props_sound, are_disjunctions_sound, is_goal_sound, is_given_sound, AreEndsLowest, IsScaleLeast, IsSound, IsWhole}
+use Rattle.block_tree.specs.Building.{BuildingValue, new_building, is_at_root, refusal_of_finish, built_model, goal_of}
+use Rattle.block_tree.specs.Sound.{is_empty, are_rows_below, are_props_sound, are_disjunctions_sound, is_goal_sound, IsScaleLeast, IsSound}
+use Rattle.block_tree.specs.Bounds.{AreEndsLowest}
+use Rattle.block_tree.specs.Whole.{is_given_sound, IsWhole}
 use Rattle.block_tree.specs.Values.{GoalValue}
 use Rattle.block_tree.specs.View.{disjunctions}
 use Rattle.block_tree.proofs.Earlier.{sound_names}
@@ -32,6 +34,9 @@ new_is_whole = record {
   opened = refl;
   placed = refl;
   outer = refl;
+  stored = refl;
+  opened_stored = refl;
+  outer_stored = refl;
 }
 
 scale_is_least : (g : Option GoalValue) → ForSome g IsScaleLeast → IsScaleLeast (goal_of g)
@@ -59,6 +64,7 @@ built_is_sound b w h =
       goal = goal_is_sound (length b.vars) b.goal w.goal;
       scale = scale_is_least b.goal w.scale;
       root = w.inner;
+      stored = w.stored;
       shallow = root_shallow (length b.booleans) b (not_false (is_at_root b) p.0) w.nested;
       indicators = root_indicators (length b.booleans) b (not_false (is_at_root b) p.0) w.nested;
       earlier = root_earlier (length b.booleans) b (sound_names (length b.booleans) b.inner.props parts.1) w.nested;

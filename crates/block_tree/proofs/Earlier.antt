@@ -1,14 +1,14 @@
 -- Propositions name only Booleans that are declared before their block ends.
-use Rattle.std.proofs.Common.{◌≡◌, ℕ, suc, ◌+◌, Bool, true, ◌&&◌, List, [], ◌∷◌, ◌++◌, length, refl, ap, sym, ◌∙◌, arith, ◌==◌, append-nil}
+use Rattle.std.proofs.Common.{◌≡◌, ℕ, suc, ◌+◌, true, ◌&&◌, List, [], ◌∷◌, ◌++◌, length, refl, ap, sym, ◌∙◌, arith, ◌==◌, append-nil}
 use Rattle.std.proofs.lemmas.Bool.Decides.{nat_tests}
 use Rattle.propositions.specs.Tree.{PropTree}
 use Rattle.propositions.specs.Truth.{are_ids_below}
-use Rattle.block_tree.specs.Building.{OpenBlock, OpenDisjunction, BuildingValue, closed_block}
+use Rattle.block_tree.specs.Building.{OpenBlock, closed_block}
 use Rattle.block_tree.specs.Earlier.{declared_by_end, name_only_first, names_earlier, disjunctions_name_earlier, disjuncts_name_earlier}
 use Rattle.block_tree.specs.Nesting.{closed_disjunct}
-use Rattle.block_tree.specs.Props.{is_prop_sound, has_small_numbers, is_shallow_prop, has_fair_lists}
+use Rattle.block_tree.specs.PropLimits.{is_prop_sound, has_small_numbers, is_shallow_prop, has_fair_lists}
 use Rattle.block_tree.specs.Sound.{are_props_sound, are_last_of}
-use Rattle.block_tree.specs.Tree.{DisjunctHead, disjunction, disjunct, below_disjunctions}
+use Rattle.block_tree.specs.Tree.{DisjunctHead, below_disjunctions}
 use Rattle.block_tree.specs.View.{DisjunctTree, DisjunctionTree, disjuncts, disjunctions}
 use Rattle.block_tree.proofs.Keeping.{both, and_true}
 

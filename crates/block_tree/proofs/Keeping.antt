@@ -1,29 +1,30 @@
 -- What a builder keeps: each call leaves it whole.
-use Rattle.std.proofs.Common.{◌≡◌, ◌⊎◌, inl, inr, ℕ, zero, suc, ◌+◌, ◌≤◌, ◌<◌, Bool, true, false, not, ◌&&◌, ◌||◌, List, [], ◌∷◌, ◌++◌, length, map, Option, Some, None, Result, Ok, Err, refl, ap, sym, ◌∙◌, subst, arith, rules, nat_lt, nat_le, nat_eq, ◌==◌, ℤ, pos, int_lt, is_some, is_none, if◌then◌else◌, length-append}
-use Rattle.std.proofs.lemmas.List.{length-map, map-append}
+use Rattle.std.proofs.Common.{◌≡◌, inl, inr, ℕ, ◌+◌, ◌≤◌, Bool, true, false, not, ◌&&◌, ◌||◌, List, [], ◌∷◌, ◌++◌, length, map, Option, Some, None, Result, refl, ap, sym, ◌∙◌, subst, arith, nat_lt, nat_le, nat_eq, ℤ, pos, int_lt, is_none, if◌then◌else◌, length-append}
+use Rattle.std.proofs.lemmas.List.{map-append}
 use Rattle.std.proofs.lemmas.List.Elements.{All-append, All-cons, All-nil}
 use Rattle.std.proofs.lemmas.Bool.Decides.{nat_tests}
-use Rattle.std.specs.List.{list_all, list_any}
+use Rattle.std.specs.List.{list_all}
 use Rattle.std.specs.Result.{OnOk}
 use Rattle.std.specs.Str.{bytes_eq}
 use Rattle.fractions.specs.Fraction.{Fraction}
 use Rattle.fractions.specs.Memory.{Acts, unless, refuse_if}
 use Rattle.lp_rows.specs.declared.kinds.Kind.{Kind}
-use Rattle.lp_rows.specs.declared.kinds.Rel.{Rel}
 use Rattle.lp_rows.specs.Holding.{ids_below}
 use Rattle.lp_rows.specs.Rows.{RowValue, is_storable, row_refusal}
 use Rattle.propositions.specs.Tree.{PropTree, atom, negated, paired, listed, PropTrees, no_props, prop}
 use Rattle.propositions.specs.Truth.{are_ids_below as are_booleans_below, are_all_ids_below as are_all_booleans_below}
 use Rattle.block_tree.specs.declared.bounds.Bound.{Bound}
 use Rattle.block_tree.specs.declared.errors.BuildError.{BuildError}
-use Rattle.block_tree.specs.declared.errors.BuildError.TheVariants.{Place, NameTwice, NameUnknown, Number, Limit, Memory}
+use Rattle.block_tree.specs.declared.errors.BuildError.TheVariants.{Place, NameTwice, Number, Limit, Memory}
 use Rattle.block_tree.specs.declared.parts.Totals.{Totals}
 use Rattle.block_tree.specs.Builders.{IsCounted}
-use Rattle.block_tree.specs.Building.{OpenBlock, OpenDisjunction, BuildingValue, is_empty, is_at_root, is_taken, is_bound, refusal_of_var, var_outcome, refusal_of_terms, refusal_of_row, row_outcome, are_ids_below, are_numbers, stored_row, rows_so_far}
-use Rattle.block_tree.specs.Names.{has_name, is_name}
-use Rattle.block_tree.specs.Props.{has_small_numbers, is_shallow_prop, has_fair_lists, is_prop_sound}
-use Rattle.block_tree.specs.Scaling.{insert_term, sorted_among, sorted_terms, scaled, scaled_terms, stored_terms, scale_of, has_id_twice}
-use Rattle.block_tree.specs.Sound.{are_names, names_of, are_rows_below, are_props_sound, is_filled, is_block_sound, are_disjunctions_sound, are_disjuncts_sound, is_open_sound, is_opened_sound, is_placed, are_around_sound, is_goal_sound, is_given_sound, AreEndsLowest, IsNested, IsWhole}
+use Rattle.block_tree.specs.Bounds.{is_bound, AreEndsLowest}
+use Rattle.block_tree.specs.Building.{OpenBlock, OpenDisjunction, BuildingValue, is_at_root, is_taken, refusal_of_var, var_outcome, are_ids_below}
+use Rattle.block_tree.specs.Sound.{is_empty, are_rows_below, are_props_sound, is_filled, is_block_sound, are_disjunctions_sound, are_disjuncts_sound, is_goal_sound}
+use Rattle.block_tree.specs.Names.{has_name, is_name, are_names}
+use Rattle.block_tree.specs.PropLimits.{has_small_numbers, is_shallow_prop, has_fair_lists, is_prop_sound}
+use Rattle.block_tree.specs.Scaling.{insert_term, sorted_among, scaled_terms}
+use Rattle.block_tree.specs.Whole.{is_open_sound, is_opened_sound, is_placed, are_around_sound, is_given_sound, IsWhole}
 use Rattle.block_tree.specs.Values.{GoalValue}
 use Rattle.block_tree.specs.Tree.{BlockTree, block, Disjunctions, no_disjunctions, disjunction, Disjuncts, no_disjuncts, disjunct}
 use Rattle.block_tree.specs.View.{disjuncts, disjunctions}
@@ -263,6 +264,9 @@ var_keeps_whole name kind bound mark b next r a o w =
       opened = rw e (opened_more (length b.vars) (length b.vars + 1) (length b.booleans) (length b.booleans) b.opened (omega arith) (omega arith) w.opened);
       placed = w.placed;
       outer = rw e (around_more (length b.vars) (length b.vars + 1) (length b.booleans) (length b.booleans) b.outer (omega arith) (omega arith) w.outer);
+      stored = w.stored;
+      opened_stored = w.opened_stored;
+      outer_stored = w.outer_stored;
       names = rw (map-append (λ v. v.0) b.vars ((name, kind, bound, mark) ∷ []))
           (rw (append_one (map (λ v. v.0) b.vars) name (map (λ v. v.0) b.booleans))
           (names_middle name (map (λ v. v.0) b.vars) (map (λ v. v.0) b.booleans) (not_false (is_name name) t.1) f w.names));
@@ -301,55 +305,6 @@ ids_sorted n placed (t ∷ ts) p q =
 pub ids_scaled : (n k : ℕ) (ts : List (ℕ × Fraction)) → ids_below n (scaled_terms k ts) ≡ are_ids_below n ts
 ids_scaled n k [] = refl
 ids_scaled n k (t ∷ ts) = ap (λ b. nat_lt t.0 n && b) (ids_scaled n k ts)
-
-row_nested : (m : ℕ) (inner : OpenBlock) (rows : List (RowValue × ℕ)) (opened : Option OpenDisjunction) (outer : List (OpenBlock × OpenDisjunction))
-    → IsNested m inner opened outer → IsNested m (record inner { rows = rows }) opened outer
-row_nested m inner rows opened outer n = record {
-  few_around = n.few_around;
-  shallow = n.shallow;
-  shallow_opened = n.shallow_opened;
-  shallow_around = n.shallow_around;
-  indicators = n.indicators;
-  earlier = n.earlier;
-  earlier_opened = n.earlier_opened;
-  earlier_around = n.earlier_around;
-}
-
-pub row_keeps_whole : (terms : List (ℕ × Fraction)) (rel : Rel) (right : Fraction) (mark : ℕ) (b : BuildingValue) → IsWhole b → IsWhole (row_outcome terms rel right mark b).1
-row_keeps_whole terms rel right mark b w =
-    let row = stored_row terms rel right in
-    let next : BuildingValue = record b { inner = record b.inner { rows = b.inner.rows ++ (row, mark) ∷ [] } } in
-    unless_keeps IsWhole (refusal_of_row terms right b) b tt next w (λ h.
-    let limit : Option BuildError = refuse_if (nat_le 1000 (rows_so_far b)) Limit None in
-    let k = scale_of terms right in
-    let p = refuses_not (is_some b.opened) Place (refusal_of_terms (length b.vars) terms right limit) h in
-    let q = refuses_not (has_id_twice terms) NameTwice (refuse_if (not (are_ids_below (length b.vars) terms)) NameUnknown (refuse_if (not (are_numbers k terms right)) Number limit)) p.1 in
-    let r = refuses_not (not (are_ids_below (length b.vars) terms)) NameUnknown (refuse_if (not (are_numbers k terms right)) Number limit) q.1 in
-    let s = refuses_not (not (are_numbers k terms right)) Number limit r.1 in
-    let t = refuses_not (nat_le 1000 (rows_so_far b)) Limit None s.1 in
-    let ids : ids_below (length b.vars) row.terms ≡ true =
-    ids_scaled (length b.vars) k (sorted_terms terms) ∙ ids_sorted (length b.vars) [] terms refl (not_false (are_ids_below (length b.vars) terms) r.0) in
-    let e : length (b.inner.rows ++ (row, mark) ∷ []) ≡ length b.inner.rows + 1 = length-append b.inner.rows ((row, mark) ∷ []) in
-    let m = below_limit 1000 (rows_so_far b) t.0 in
-    let x = block_parts (are_rows_below (length b.vars) b.inner.rows) (are_props_sound (length b.booleans) b.inner.props) (are_disjunctions_sound (length b.vars) (length b.booleans) (disjunctions b.inner.closed)) w.inner in
-    let y : are_rows_below (length b.vars) (b.inner.rows ++ (row, mark) ∷ []) ≡ true =
-    all_append (λ a. ids_below (length b.vars) a.0.terms) b.inner.rows ((row, mark) ∷ []) x.0 (and_true (ids_below (length b.vars) row.terms) true ids refl) in
-    record {
-      few_variables = w.few_variables;
-      few_booleans = w.few_booleans;
-      few_rows = omega (arith, e, m);
-      few_nodes = w.few_nodes;
-      names = w.names;
-      bounds = w.bounds;
-      ends = w.ends;
-      scale = w.scale;
-      nested = row_nested (length b.booleans) b.inner next.inner.rows b.opened b.outer w.nested;
-      goal = w.goal;
-      inner = block_whole (are_rows_below (length b.vars) next.inner.rows) (are_props_sound (length b.booleans) b.inner.props) (are_disjunctions_sound (length b.vars) (length b.booleans) (disjunctions b.inner.closed)) y x.1 x.2;
-      opened = w.opened;
-      placed = w.placed;
-      outer = w.outer;
-    })
 
 pub var_keeps_counted : (t : Totals) (name : List ℕ) (kind : Kind) (bound : Bound) (mark : ℕ) (b : BuildingValue) → IsCounted t b → IsCounted t (var_outcome name kind bound mark b).1
 var_keeps_counted t name kind bound mark b w =

@@ -1,5 +1,5 @@
 -- Ids that are put into a set one by one.
-use Rattle.std.proofs.Common.{◌≡◌, ℕ, ◌+◌, ◌<◌, Bool, true, false, cond, ◌||◌, List, [], ◌∷◌, drop, length, get_or, refl, sym, ap, ◌∙◌, arith, nat_lt, ◌==◌, add-one, drop-cons, ℤ, pos, slice_index_or}
+use Rattle.std.proofs.Common.{◌≡◌, ℕ, ◌+◌, ◌<◌, Bool, true, false, cond, ◌||◌, List, ◌∷◌, drop, length, get_or, refl, sym, ap, ◌∙◌, arith, nat_lt, ◌==◌, add-one, drop-cons, ℤ, pos, slice_index_or}
 use Rattle.std.proofs.lemmas.Bool.Decides.{nat_tests}
 use Rattle.std.specs.BTreeSet.{BTreeSet, contains, Updates}
 use Rattle.std.specs.Ordering.{is_eq, nat_cmp}

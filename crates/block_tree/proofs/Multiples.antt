@@ -1,12 +1,12 @@
 -- The least scale of fractions is the least common multiple of their denominators.
-use Rattle.std.proofs.Common.{◌≡◌, ◌≢◌, ◌⊎◌, inl, inr, ℕ, zero, suc, ◌+◌, ◌*◌, ◌/◌, ◌%◌, ◌≤◌, ◌<◌, ◌^◌, Bool, true, false, not, ◌&&◌, ◌||◌, List, [], ◌∷◌, map, refl, sym, ap, ◌∙◌, subst, arith, rules, nat_eq, nat_lt, nat_le, ℤ, pos, ◌*ℤ◌, unsigned_abs, negsuc, ◌<ℤ◌, FitsSigned, Option, Some, None, Result, Ok, Err, length, get_or, drop, add-one, drop-cons, if◌then◌else◌}
+use Rattle.std.proofs.Common.{◌≡◌, ◌≢◌, ◌⊎◌, inl, inr, ℕ, zero, suc, ◌+◌, ◌*◌, ◌/◌, ◌%◌, ◌≤◌, ◌<◌, ◌^◌, Bool, true, false, not, ◌&&◌, List, [], ◌∷◌, refl, sym, ap, ◌∙◌, subst, arith, nat_eq, nat_lt, nat_le, ℤ, pos, unsigned_abs, negsuc, ◌<ℤ◌, FitsSigned, Option, Some, None, Result, Ok, Err, length, get_or, drop, add-one, drop-cons, if◌then◌else◌}
 use Prim.Native.Nat.{◌∣◌}
 use mir.Syntax.{w128}
-use Rattle.std.specs.List.{list_all, list_any}
+use Rattle.std.specs.List.{list_all}
 use Rattle.std.proofs.lemmas.Bool.Decides.{nat_tests}
 use Rattle.std.proofs.lemmas.Int.{ints, unsigned_abs-mul}
 use Rattle.std.proofs.lemmas.Nat.{le-div}
-use Rattle.std.proofs.lemmas.Nat.Gcd.{dvd_refl, dvd_trans, dvd_antisymm, le_of_dvd, dvd_of_mod-eq-zero, mod-eq-zero_of_dvd}
+use Rattle.std.proofs.lemmas.Nat.Gcd.{dvd_refl, dvd_trans, le_of_dvd, dvd_of_mod-eq-zero, mod-eq-zero_of_dvd}
 use Rattle.std.proofs.Math.Nat.{dvd-mul_left, dvd-mul_right}
 use Rattle.fractions.specs.Divisors.{IsLcm}
 use Rattle.fractions.specs.Fraction.{Fraction}
@@ -18,7 +18,8 @@ use Rattle.fractions.specs.Memory.{OrMemory, refuse_if, refused_or}
 use Rattle.block_tree.specs.declared.errors.BuildError.{BuildError}
 use Rattle.block_tree.specs.declared.errors.BuildError.TheVariants.{Number, NameTwice, NameUnknown, Memory}
 use Rattle.block_tree.specs.declared.scaling.Stored.{Stored}
-use Rattle.block_tree.specs.Building.{has_small_parts, are_ids_below, are_numbers, refusal_of_terms}
+use Rattle.block_tree.specs.Bounds.{has_small_parts}
+use Rattle.block_tree.specs.Building.{are_ids_below, are_numbers, refusal_of_terms}
 use Rattle.block_tree.specs.Scaling.{is_multiple, all_divide, least_multiple_from, product_of, least_scale, are_positive, denominators, scale_of, scaled, scaled_terms, has_id_twice, insert_term, sorted_among, sorted_terms, stored_terms}
 use Rattle.block_tree.proofs.Keeping.{both, and_true}
 

@@ -1,33 +1,35 @@
 -- What a builder keeps where Booleans are declared, a goal is set, and blocks are opened and closed.
 use Rattle.std.proofs.Common.{◌≡◌, ℕ, zero, suc, ◌+◌, ◌≤◌, ◌<◌, Bool, true, false, not, ◌&&◌, ◌||◌, List, [], ◌∷◌, ◌++◌, length, map, Option, Some, None, Result, Ok, Err, refl, ap, sym, ◌∙◌, subst, arith, nat_lt, nat_le, nat_eq, ◌==◌, ℤ, pos, int_lt, is_some, is_none, if◌then◌else◌, length-append, append-nil, append_assoc}
 use Rattle.std.proofs.lemmas.List.{map-append}
-use Rattle.std.proofs.lemmas.Int.{ints}
 use Rattle.std.proofs.lemmas.Bool.Decides.{nat_tests}
 use Rattle.std.specs.List.{list_all}
 use Rattle.std.specs.Option.{ForSome}
 use Rattle.std.specs.Result.{OnOk}
 use Rattle.fractions.specs.Fraction.{Fraction}
-use Rattle.fractions.specs.Memory.{Acts, unless, refuse_if}
+use Rattle.fractions.specs.Memory.{Acts, refuse_if}
+use Rattle.lp_rows.specs.declared.kinds.Rel.{Rel}
 use Rattle.lp_rows.specs.declared.kinds.Sense.{Sense}
 use Rattle.lp_rows.specs.Holding.{ids_below}
-use Rattle.lp_rows.specs.Rows.{is_storable, row_refusal, ascends_from, has_zero, are_storable}
+use Rattle.lp_rows.specs.Rows.{RowValue, is_storable, row_refusal, ascends_from, has_zero, are_storable}
 use Rattle.block_tree.specs.declared.errors.BuildError.{BuildError}
 use Rattle.block_tree.specs.declared.errors.BuildError.TheVariants.{Place, NameTwice, NameUnknown, Number, Nesting, Limit, Missing, Memory}
 use Rattle.block_tree.specs.declared.parts.Totals.{Totals}
 use Rattle.block_tree.specs.declared.tree.Mode.{Mode}
-use Rattle.block_tree.specs.Building.{OpenBlock, OpenDisjunction, BuildingValue, empty_block, is_empty, is_at_root, is_taken, are_ids_below, are_numbers, has_small_parts, refusal_of_terms, rows_so_far, rows_in_open, rows_in_opened, rows_around, closed_block}
+use Rattle.block_tree.specs.Bounds.{has_small_parts}
+use Rattle.block_tree.specs.Building.{OpenBlock, OpenDisjunction, BuildingValue, empty_block, is_at_root, is_taken, are_ids_below, are_numbers, refusal_of_terms, refusal_of_row, row_outcome, stored_row, rows_so_far, rows_in_open, rows_in_opened, rows_around}
+use Rattle.block_tree.specs.Sound.{is_empty, are_rows_below, are_props_sound, is_filled, is_block_sound, are_disjunctions_sound, are_disjuncts_sound, are_rows_stored, is_stored, are_disjunctions_stored, are_disjuncts_stored, IsScaleLeast}
 use Rattle.block_tree.specs.Builders.{IsCounted}
-use Rattle.block_tree.specs.Names.{has_name, is_name}
+use Rattle.block_tree.specs.Names.{has_name, is_name, are_names}
 use Rattle.block_tree.specs.Nesting.{refusal_of_boolean, boolean_outcome, refusal_of_scale, refusal_of_goal, stored_goal, goal_outcome, open_disjunction_outcome, refusal_of_disjunct, with_disjunct, open_disjunct_in, open_disjunct_outcome, closed_disjunct, closed_disjunction, close_disjunction, close_disjunct, close_opened, close_outcome}
-use Rattle.block_tree.specs.Props.{nodes_so_far, nodes_in_open, nodes_in_opened, nodes_around}
-use Rattle.block_tree.specs.Scaling.{has_id, has_id_twice, sorted_among, sorted_terms, scaled, scaled_terms, stored_terms, scale_of, least_scale, least_multiple_from, all_divide, product_of, denominators, insert_term, AreLowest}
-use Rattle.block_tree.specs.Sound.{are_names, names_of, are_rows_below, are_props_sound, is_filled, is_block_sound, are_disjunctions_sound, are_disjuncts_sound, is_open_sound, is_opened_sound, is_placed, are_around_sound, is_goal_sound, is_given_sound, IsScaleLeast, IsNested, IsWhole}
-use Rattle.block_tree.specs.Tree.{BlockTree, block, Disjunctions, no_disjunctions, disjunction, Disjuncts, no_disjuncts, disjunct, DisjunctionHead, DisjunctHead, row_count, row_count_below, row_count_within, node_total, node_total_below, node_total_within}
+use Rattle.block_tree.specs.Props.{nodes_in_open, nodes_in_opened, nodes_around}
+use Rattle.block_tree.specs.Scaling.{has_id, has_id_twice, sorted_among, sorted_terms, scaled, stored_terms, scale_of, least_scale, least_multiple_from, all_divide, product_of, denominators, insert_term, AreLowest}
+use Rattle.block_tree.specs.Variables.{names_of, BooleanValue}
+use Rattle.block_tree.specs.Whole.{is_open_sound, is_opened_sound, is_placed, are_around_sound, is_open_stored, is_opened_stored, are_around_stored, IsNested, IsWhole}
+use Rattle.block_tree.specs.Tree.{row_count, row_count_below, row_count_within, node_total, node_total_below, node_total_within}
 use Rattle.block_tree.specs.Values.{GoalValue}
-use Rattle.block_tree.specs.Variables.{BooleanValue}
 use Rattle.block_tree.specs.View.{DisjunctTree, DisjunctionTree, disjuncts, disjunctions}
 use Rattle.block_tree.proofs.Earlier.{sound_names}
-use Rattle.block_tree.proofs.Keeping.{block_parts, block_whole, accepted_keeps, unless_keeps, refuses_not, both, and_true, neither, not_false, below_limit, names_middle, has_append, ids_sorted, ids_scaled, open_more, opened_more, placed_more, around_more, around_parts, around_whole, disjuncts_more, given_more}
+use Rattle.block_tree.proofs.Keeping.{all_append, block_parts, block_whole, accepted_keeps, unless_keeps, refuses_not, both, and_true, neither, not_false, below_limit, names_middle, has_append, ids_sorted, ids_scaled, open_more, opened_more, placed_more, around_more, around_parts, around_whole}
 use Rattle.block_tree.proofs.Multiples.{ascends_scaled}
 use Rattle.block_tree.proofs.Places.{boolean_nested, disjunction_nested, disjunct_nested, closed_disjunction_nested, closed_disjunct_nested}
 use Rattle.block_tree.proofs.Scales.{scale_least}
@@ -87,13 +89,16 @@ boolean_keeps_whole name mark b w =
       opened = v.opened;
       placed = v.placed;
       outer = v.outer;
+      stored = w.stored;
+      opened_stored = w.opened_stored;
+      outer_stored = w.outer_stored;
     })
 
 pub boolean_keeps_counted : (t : Totals) (name : List ℕ) (mark : ℕ) (b : BuildingValue) → IsCounted t b → IsCounted t (boolean_outcome name mark b).1
 boolean_keeps_counted t name mark b w =
     unless_keeps (IsCounted t) (refusal_of_boolean name b) b (length b.booleans) (record b { booleans = b.booleans ++ (name, mark) ∷ [] }) w (λ _. w)
 
--- a goal
+-- terms as they are stored
 
 ascends-sorted : {A : Type 0} (placed ts : List (ℕ × A)) → ascends_from 0 placed ≡ true → is_twice placed ts ≡ false → ascends_from 0 (sorted_among placed ts) ≡ true
 ascends-sorted placed [] a h = a
@@ -142,6 +147,67 @@ numbers_parts false b z s r h = cc
 row_refuses_not : (terms : List (ℕ × ℤ)) (number : ℤ) → ascends_from 0 terms ≡ true → has_zero terms ≡ false → are_storable terms ≡ true → is_storable number ≡ true → row_refusal terms number ≡ None
 row_refuses_not terms number a z s n = rw (a, z, s, n)
 
+-- a row
+
+row_nested : (m : ℕ) (inner : OpenBlock) (rows : List (RowValue × ℕ)) (opened : Option OpenDisjunction) (outer : List (OpenBlock × OpenDisjunction))
+    → IsNested m inner opened outer → IsNested m (record inner { rows = rows }) opened outer
+row_nested m inner rows opened outer n = record {
+  few_around = n.few_around;
+  shallow = n.shallow;
+  shallow_opened = n.shallow_opened;
+  shallow_around = n.shallow_around;
+  indicators = n.indicators;
+  earlier = n.earlier;
+  earlier_opened = n.earlier_opened;
+  earlier_around = n.earlier_around;
+}
+
+pub row_keeps_whole : (terms : List (ℕ × Fraction)) (rel : Rel) (right : Fraction) (mark : ℕ) (b : BuildingValue) → IsWhole b → IsWhole (row_outcome terms rel right mark b).1
+row_keeps_whole terms rel right mark b w =
+    let row = stored_row terms rel right in
+    let next : BuildingValue = record b { inner = record b.inner { rows = b.inner.rows ++ (row, mark) ∷ [] } } in
+    unless_keeps IsWhole (refusal_of_row terms right b) b tt next w (λ h.
+    let limit : Option BuildError = refuse_if (nat_le 1000 (rows_so_far b)) Limit None in
+    let k = scale_of terms right in
+    let p = refuses_not (is_some b.opened) Place (refusal_of_terms (length b.vars) terms right limit) h in
+    let q = refuses_not (has_id_twice terms) NameTwice (refuse_if (not (are_ids_below (length b.vars) terms)) NameUnknown (refuse_if (not (are_numbers k terms right)) Number limit)) p.1 in
+    let r = refuses_not (not (are_ids_below (length b.vars) terms)) NameUnknown (refuse_if (not (are_numbers k terms right)) Number limit) q.1 in
+    let s = refuses_not (not (are_numbers k terms right)) Number limit r.1 in
+    let t = refuses_not (nat_le 1000 (rows_so_far b)) Limit None s.1 in
+    let v = numbers_parts (list_all (λ u. has_small_parts u.1) terms) (has_small_parts right) (has_zero (stored_terms k terms)) (are_storable (stored_terms k terms)) (is_storable (scaled k right)) (not_false (are_numbers k terms right) s.0) in
+    let a : ascends_from 0 row.terms ≡ true = ascends_scaled k 0 (sorted_terms terms) ∙ ascends-sorted [] terms refl (twice_none terms ∙ q.0) in
+    let kept : is_none (row_refusal row.terms row.right) ≡ true = none_is (row_refusal row.terms row.right) (row_refuses_not row.terms row.right a v.0 v.1 v.2) in
+    let z = both (are_rows_stored b.inner.rows) (are_disjunctions_stored (disjunctions b.inner.closed)) w.stored in
+    let ids : ids_below (length b.vars) row.terms ≡ true =
+    ids_scaled (length b.vars) k (sorted_terms terms) ∙ ids_sorted (length b.vars) [] terms refl (not_false (are_ids_below (length b.vars) terms) r.0) in
+    let e : length (b.inner.rows ++ (row, mark) ∷ []) ≡ length b.inner.rows + 1 = length-append b.inner.rows ((row, mark) ∷ []) in
+    let m = below_limit 1000 (rows_so_far b) t.0 in
+    let x = block_parts (are_rows_below (length b.vars) b.inner.rows) (are_props_sound (length b.booleans) b.inner.props) (are_disjunctions_sound (length b.vars) (length b.booleans) (disjunctions b.inner.closed)) w.inner in
+    let y : are_rows_below (length b.vars) (b.inner.rows ++ (row, mark) ∷ []) ≡ true =
+    all_append (λ a. ids_below (length b.vars) a.0.terms) b.inner.rows ((row, mark) ∷ []) x.0 (and_true (ids_below (length b.vars) row.terms) true ids refl) in
+    record {
+      few_variables = w.few_variables;
+      few_booleans = w.few_booleans;
+      few_rows = omega (arith, e, m);
+      few_nodes = w.few_nodes;
+      names = w.names;
+      bounds = w.bounds;
+      ends = w.ends;
+      scale = w.scale;
+      nested = row_nested (length b.booleans) b.inner next.inner.rows b.opened b.outer w.nested;
+      goal = w.goal;
+      inner = block_whole (are_rows_below (length b.vars) next.inner.rows) (are_props_sound (length b.booleans) b.inner.props) (are_disjunctions_sound (length b.vars) (length b.booleans) (disjunctions b.inner.closed)) y x.1 x.2;
+      opened = w.opened;
+      placed = w.placed;
+      outer = w.outer;
+      stored = and_true (are_rows_stored next.inner.rows) (are_disjunctions_stored (disjunctions b.inner.closed))
+          (all_append (λ r. is_none (row_refusal r.0.terms r.0.right)) b.inner.rows ((row, mark) ∷ []) z.0 (and_true (is_none (row_refusal row.terms row.right)) true kept refl)) z.1;
+      opened_stored = w.opened_stored;
+      outer_stored = w.outer_stored;
+    })
+
+-- a goal
+
 given_least : (g : GoalValue) → IsScaleLeast g → ForSome (Some g) IsScaleLeast
 given_least g h x e = subst (λ (o : Option GoalValue). IsScaleLeast (given_or o)) e h
   where
@@ -181,6 +247,9 @@ goal_keeps_whole sense terms constant mark b next answer acts lowest w =
       opened = w.opened;
       placed = w.placed;
       outer = w.outer;
+      stored = w.stored;
+      opened_stored = w.opened_stored;
+      outer_stored = w.outer_stored;
     })
 
 pub goal_keeps_counted : (t : Totals) (sense : Sense) (terms : List (ℕ × Fraction)) (constant : Fraction) (mark : ℕ) (b : BuildingValue) → IsCounted t b → IsCounted t (goal_outcome sense terms constant mark b).1
@@ -213,6 +282,9 @@ open_disjunction_keeps_whole mode mark b w =
       opened = refl;
       placed = w.placed;
       outer = w.outer;
+      stored = w.stored;
+      opened_stored = refl;
+      outer_stored = w.outer_stored;
     })
 
 rows_at_none : (o : Option OpenDisjunction) → is_some o ≡ false → rows_in_opened o ≡ 0
@@ -275,6 +347,10 @@ disjunct_whole name mark b d o w h =
       opened = refl;
       placed = or_last (is_empty ((b.inner, d) ∷ b.outer)) (nat_lt (length b.booleans) m) (rw e (next_is_below (length b.booleans)));
       outer = around_whole n m (b.inner, d) b.outer v.inner sound v.placed v.outer;
+      stored = refl;
+      opened_stored = refl;
+      outer_stored = and_true (is_open_stored b.inner) (are_disjuncts_stored (disjuncts d.closed) && are_around_stored b.outer) w.stored
+          (and_true (are_disjuncts_stored (disjuncts d.closed)) (are_around_stored b.outer) (ap is_opened_stored (sym o) ∙ w.opened_stored) w.outer_stored);
     }
 
 open_disjunct_keeps : (o : Option OpenDisjunction) (name : List ℕ) (mark : ℕ) (b : BuildingValue) → b.opened ≡ o → IsWhole b → IsWhole (open_disjunct_in o name mark b).1
@@ -313,6 +389,18 @@ disjuncts_sound_push n m (x ∷ xs) j h i s =
     let p = both (nat_lt x.0.indicator m && is_block_sound n m x.1) (are_disjuncts_sound n m (disjuncts xs)) h in
     and_true (nat_lt x.0.indicator m && is_block_sound n m x.1) (are_disjuncts_sound n m (disjuncts (xs ++ j ∷ []))) p.0 (disjuncts_sound_push n m xs j p.1 i s)
 
+disjunctions_stored_push : (ds : List DisjunctionTree) (d : DisjunctionTree) → are_disjunctions_stored (disjunctions ds) ≡ true → are_disjuncts_stored d.1 ≡ true → are_disjunctions_stored (disjunctions (ds ++ d ∷ [])) ≡ true
+disjunctions_stored_push [] d h s = and_true (are_disjuncts_stored d.1) true s refl
+disjunctions_stored_push (x ∷ xs) d h s =
+    let p = both (are_disjuncts_stored x.1) (are_disjunctions_stored (disjunctions xs)) h in
+    and_true (are_disjuncts_stored x.1) (are_disjunctions_stored (disjunctions (xs ++ d ∷ []))) p.0 (disjunctions_stored_push xs d p.1 s)
+
+disjuncts_stored_push : (js : List DisjunctTree) (j : DisjunctTree) → are_disjuncts_stored (disjuncts js) ≡ true → is_stored j.1 ≡ true → are_disjuncts_stored (disjuncts (js ++ j ∷ [])) ≡ true
+disjuncts_stored_push [] j h s = and_true (is_stored j.1) true s refl
+disjuncts_stored_push (x ∷ xs) j h s =
+    let p = both (is_stored x.1) (are_disjuncts_stored (disjuncts xs)) h in
+    and_true (is_stored x.1) (are_disjuncts_stored (disjuncts (xs ++ j ∷ []))) p.0 (disjuncts_stored_push xs j p.1 s)
+
 row_count_below-push : (ds : List DisjunctionTree) (d : DisjunctionTree) → row_count_below (disjunctions (ds ++ d ∷ [])) ≡ row_count_below (disjunctions ds) + row_count_within d.1
 row_count_below-push [] d = omega arith
 row_count_below-push (x ∷ xs) d = omega (arith, row_count_below-push xs d)
@@ -349,6 +437,7 @@ close_disjunction_whole b d o w =
     let weight = node_total_below-push b.inner.closed (closed_disjunction d) in
     unless_keeps IsWhole (refuse_if (is_empty d.closed) Missing None) b tt next w (λ h.
     let p = refuses_not (is_empty d.closed) Missing None h in
+    let z = both (are_rows_stored b.inner.rows) (are_disjunctions_stored (disjunctions b.inner.closed)) w.stored in
     let x = block_parts (are_rows_below n b.inner.rows) (are_props_sound m b.inner.props) (are_disjunctions_sound n m (disjunctions b.inner.closed)) w.inner in
     record {
       few_variables = w.few_variables;
@@ -366,6 +455,10 @@ close_disjunction_whole b d o w =
       opened = refl;
       placed = w.placed;
       outer = w.outer;
+      stored = and_true (are_rows_stored b.inner.rows) (are_disjunctions_stored (disjunctions next.inner.closed)) z.0
+          (disjunctions_stored_push b.inner.closed (closed_disjunction d) z.1 (ap is_opened_stored (sym o) ∙ w.opened_stored));
+      opened_stored = refl;
+      outer_stored = w.outer_stored;
     })
 
 close_disjunct_whole : (b : BuildingValue) (os : List (OpenBlock × OpenDisjunction)) → b.opened ≡ None → b.outer ≡ os → IsWhole b → IsWhole (close_disjunct b os).1
@@ -381,6 +474,8 @@ close_disjunct_whole b (o ∷ os) e f w =
     let nodes : nodes_in_opened b.opened ≡ 0 = ap nodes_in_opened e in
     let outside : nodes_around b.outer ≡ nodes_in_open o.0 + node_total_within (disjuncts o.1.closed) + nodes_around os = ap nodes_around f in
     let weight = node_total_within-push o.1.closed (closed_disjunct b.inner) in
+    let z = both (is_open_stored o.0) (are_disjuncts_stored (disjuncts o.1.closed) && are_around_stored os) (ap are_around_stored (sym f) ∙ w.outer_stored) in
+    let y = both (are_disjuncts_stored (disjuncts o.1.closed)) (are_around_stored os) z.1 in
     let x = block_parts (are_rows_below n b.inner.rows) (are_props_sound m b.inner.props) (are_disjunctions_sound n m (disjunctions b.inner.closed)) w.inner in
     record {
       few_variables = w.few_variables;
@@ -397,6 +492,9 @@ close_disjunct_whole b (o ∷ os) e f w =
       opened = disjuncts_sound_push n m o.1.closed (closed_disjunct b.inner) p.1 i w.inner;
       placed = p.2;
       outer = p.3;
+      stored = z.0;
+      opened_stored = disjuncts_stored_push o.1.closed (closed_disjunct b.inner) y.0 w.stored;
+      outer_stored = y.1;
     }
 
 close_opened_whole : (o : Option OpenDisjunction) (b : BuildingValue) → b.opened ≡ o → IsWhole b → IsWhole (close_opened o b).1

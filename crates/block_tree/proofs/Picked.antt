@@ -12,7 +12,7 @@ use Rattle.block_tree.specs.declared.tree.Disjunct.{Disjunct}
 use Rattle.block_tree.specs.declared.tree.Disjunction.{Disjunction}
 use Rattle.block_tree.specs.Items.{enforced, choice, conditions_in, conditions_of_disjunctions, conditions_of_disjuncts}
 use Rattle.block_tree.specs.Picking.{readings, reading_at, are_props_below, is_block_below, are_disjunctions_below, are_disjuncts_below}
-use Rattle.block_tree.specs.Props.{is_prop_sound, has_small_numbers, is_shallow_prop, has_fair_lists}
+use Rattle.block_tree.specs.PropLimits.{is_prop_sound, has_small_numbers, is_shallow_prop, has_fair_lists}
 use Rattle.block_tree.specs.Sound.{are_rows_below, are_props_sound, is_filled, is_block_sound, are_disjunctions_sound, are_disjuncts_sound}
 use Rattle.block_tree.specs.Tree.{BlockTree, block, Disjunctions, no_disjunctions, disjunction, Disjuncts, no_disjuncts, disjunct}
 use Rattle.block_tree.specs.View.{DisjunctTree, DisjunctionTree, disjunction_of, disjunct_of, disjunctions_of, disjuncts_of, props_of, props_in, disjunctions_in}

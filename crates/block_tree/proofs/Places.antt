@@ -1,11 +1,12 @@
 -- What a builder keeps of the places of disjuncts: how deep they stand, and that their indicators are the last Booleans.
-use Rattle.std.proofs.Common.{◌≡◌, ℕ, suc, ◌+◌, ◌≤◌, ◌<◌, true, false, ◌&&◌, List, [], ◌∷◌, ◌++◌, length, Option, Some, None, refl, ap, sym, ◌∙◌, subst, arith, nat_lt, nat_le, ◌==◌, is_none, length-append, append-nil, append_assoc}
+use Rattle.std.proofs.Common.{◌≡◌, ℕ, suc, ◌+◌, ◌≤◌, true, false, ◌&&◌, List, [], ◌∷◌, ◌++◌, length, Option, Some, None, refl, ap, sym, ◌∙◌, subst, arith, nat_lt, nat_le, ◌==◌, is_none, length-append, append-nil, append_assoc}
 use Rattle.std.proofs.lemmas.Bool.Decides.{nat_tests}
-use Rattle.block_tree.specs.Building.{OpenBlock, OpenDisjunction, BuildingValue, empty_block, is_empty, is_at_root, closed_block}
+use Rattle.block_tree.specs.Building.{OpenBlock, OpenDisjunction, BuildingValue, empty_block, is_at_root, closed_block}
+use Rattle.block_tree.specs.Sound.{is_empty, is_shallow, are_disjunctions_shallow, are_disjuncts_shallow, are_last_of}
 use Rattle.block_tree.specs.Earlier.{name_only_first, names_earlier, disjunctions_name_earlier, disjuncts_name_earlier}
 use Rattle.block_tree.specs.Nesting.{closed_disjunct, closed_disjunction}
-use Rattle.block_tree.specs.Sound.{is_shallow, are_disjunctions_shallow, are_disjuncts_shallow, are_around_shallow, are_around_earlier, are_last_of, head_within, heads_in, heads_in_opened, heads_around, IsNested}
-use Rattle.block_tree.specs.Tree.{DisjunctHead, disjunction, disjunct, below, below_disjunctions, below_disjuncts}
+use Rattle.block_tree.specs.Whole.{are_around_shallow, are_around_earlier, head_within, heads_in, heads_in_opened, heads_around, IsNested}
+use Rattle.block_tree.specs.Tree.{DisjunctHead, below, below_disjunctions, below_disjuncts}
 use Rattle.block_tree.specs.View.{DisjunctTree, DisjunctionTree, disjuncts, disjunctions}
 use Rattle.block_tree.proofs.Earlier.{earlier-pushed, within_earlier-pushed, ends_at, block_earlier}
 use Rattle.block_tree.proofs.Keeping.{both, and_true}

@@ -1,5 +1,5 @@
 -- What a builder keeps where a proposition is added, and how its nodes are counted.
-use Rattle.std.proofs.Common.{◌≡◌, ℕ, ◌+◌, ◌≤◌, Bool, true, false, not, ◌&&◌, ◌||◌, List, [], ◌∷◌, ◌++◌, length, Option, Some, None, refl, ap, arith, min, nat_le, is_some, ◌<◌}
+use Rattle.std.proofs.Common.{◌≡◌, ℕ, ◌+◌, ◌≤◌, true, false, not, ◌&&◌, ◌||◌, List, [], ◌∷◌, ◌++◌, length, Option, None, refl, ap, arith, min, nat_le, is_some, ◌<◌}
 use Rattle.std.proofs.lemmas.Bool.Decides.{nat_tests}
 use Rattle.fractions.specs.Memory.{refuse_if}
 use Rattle.propositions.specs.Sizes.{node_count_of}
@@ -9,12 +9,14 @@ use Rattle.propositions.specs.View.{prop_tree}
 use Rattle.propositions.specs.declared.tree.Prop.{Prop}
 use Rattle.block_tree.specs.declared.errors.BuildError.{BuildError}
 use Rattle.block_tree.specs.declared.errors.BuildError.TheVariants.{Place, NameUnknown, Number, Nesting, Limit}
-use Rattle.block_tree.specs.Building.{OpenBlock, OpenDisjunction, BuildingValue, rows_so_far}
-use Rattle.block_tree.specs.Props.{has_small_numbers, is_shallow_prop, has_fair_lists, is_prop_sound, nodes_so_far, refusal_of_prop, prop_outcome}
-use Rattle.block_tree.specs.Sound.{are_rows_below, are_props_sound, are_disjunctions_sound, IsNested, IsWhole}
+use Rattle.block_tree.specs.Building.{OpenBlock, OpenDisjunction, BuildingValue}
+use Rattle.block_tree.specs.PropLimits.{has_small_numbers, is_shallow_prop, has_fair_lists, is_prop_sound}
+use Rattle.block_tree.specs.Props.{nodes_so_far, refusal_of_prop, prop_outcome}
+use Rattle.block_tree.specs.Sound.{are_rows_below, are_props_sound, are_disjunctions_sound}
+use Rattle.block_tree.specs.Whole.{IsNested, IsWhole}
 use Rattle.block_tree.specs.Tree.{nodes_of_props}
 use Rattle.block_tree.specs.View.{disjunctions, props_of}
-use Rattle.block_tree.proofs.Keeping.{unless_keeps, refuses_not, both, and_true, neither, not_false, all_append, block_parts, block_whole}
+use Rattle.block_tree.proofs.Keeping.{unless_keeps, refuses_not, and_true, neither, not_false, all_append, block_parts, block_whole}
 
 pub nodes_of_props-push : (qs : List (PropTree × ℕ)) (q : PropTree × ℕ) → nodes_of_props (qs ++ q ∷ []) ≡ nodes_of_props qs + node_count_of q.0
 nodes_of_props-push [] q = omega arith
@@ -76,6 +78,9 @@ prop_keeps_whole p mark b w =
       opened = w.opened;
       placed = w.placed;
       outer = w.outer;
+      stored = w.stored;
+      opened_stored = w.opened_stored;
+      outer_stored = w.outer_stored;
     })
 
 -- one more proposition's nodes, as they are counted in the stored list

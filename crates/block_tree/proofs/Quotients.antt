@@ -1,5 +1,5 @@
 -- A quotient with a positive denominator is no greater in lowest terms, so it fits where its parts do.
-use Rattle.std.proofs.Common.{◌≡◌, ℕ, zero, suc, ◌+◌, ◌*◌, ◌/◌, ◌≤◌, ◌<◌, ◌^◌, Bool, true, false, ◌&&◌, refl, sym, ap, ◌∙◌, subst, arith, nat_lt, ℤ, pos, negsuc, ◌*ℤ◌, ◌<ℤ◌, unsigned_abs, ◌⊎◌, inl, inr, List, Result, Ok, Err, if◌then◌else◌}
+use Rattle.std.proofs.Common.{◌≡◌, ℕ, zero, suc, ◌*◌, ◌/◌, ◌≤◌, ◌^◌, Bool, true, false, ◌&&◌, refl, sym, ap, ◌∙◌, subst, arith, nat_lt, ℤ, pos, negsuc, ◌*ℤ◌, ◌<ℤ◌, unsigned_abs, ◌⊎◌, inl, inr, List, Result, Ok, Err, if◌then◌else◌}
 use Rattle.std.proofs.lemmas.Bool.Decides.{nat_tests}
 use Rattle.std.proofs.lemmas.Int.{ints, unsigned_abs-mul}
 use Rattle.std.proofs.Math.Nat.{mul-div_cancel'}

@@ -1,5 +1,5 @@
 -- The least scale of a goal in lowest terms leaves no common divisor.
-use Rattle.std.proofs.Common.{◌≡◌, ℕ, zero, suc, ◌+◌, ◌*◌, ◌/◌, ◌≤◌, ◌<◌, Bool, true, false, ◌&&◌, List, [], ◌∷◌, map, refl, sym, ap, ◌∙◌, subst, arith, ℤ, pos, ◌*ℤ◌, unsigned_abs, nat_lt, if◌then◌else◌, All, length, get_or, drop, add-one, drop-cons}
+use Rattle.std.proofs.Common.{◌≡◌, ℕ, zero, suc, ◌+◌, ◌*◌, ◌/◌, ◌≤◌, ◌<◌, Bool, true, false, ◌&&◌, List, [], ◌∷◌, map, refl, sym, ap, ◌∙◌, subst, arith, pos, unsigned_abs, nat_lt, if◌then◌else◌, All, length, get_or, drop, add-one, drop-cons}
 use Rattle.std.proofs.lemmas.Bool.Decides.{nat_tests}
 use Rattle.std.proofs.lemmas.Int.{unsigned_abs-mul}
 use Rattle.std.proofs.lemmas.List.Elements.{All-head, All-tail, All-cons, All-nil}
@@ -10,9 +10,9 @@ use Rattle.std.specs.List.{list_all}
 use Rattle.fractions.specs.Fraction.{Fraction}
 use Rattle.fractions.proofs.Scaled.{scaled_gcd}
 use Rattle.lp_rows.specs.declared.kinds.Sense.{Sense}
-use Rattle.block_tree.specs.Building.{has_small_parts}
+use Rattle.block_tree.specs.Bounds.{has_small_parts, IsInLowest}
 use Rattle.block_tree.specs.Nesting.{stored_goal}
-use Rattle.block_tree.specs.Scaling.{is_multiple, all_divide, divides_all, are_positive, denominators, scale_of, scaled, scaled_terms, stored_terms, insert_term, sorted_among, sorted_terms, IsInLowest, AreLowest}
+use Rattle.block_tree.specs.Scaling.{is_multiple, all_divide, divides_all, are_positive, denominators, scale_of, scaled, scaled_terms, stored_terms, insert_term, sorted_among, sorted_terms, AreLowest}
 use Rattle.block_tree.specs.Sound.{IsScaleLeast}
 use Rattle.block_tree.specs.Values.{no_goal}
 use Rattle.block_tree.proofs.Keeping.{both, and_true}

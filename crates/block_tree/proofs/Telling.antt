@@ -1,5 +1,5 @@
 -- What the verdict tells of the point.
-use Rattle.std.proofs.Common.{◌≡◌, ℕ, ◌+◌, ℤ, Bool, true, false, not, ◌&&◌, List, [], ◌∷◌, ◌++◌, map, Result, Ok, Err, refl, ap, sym, ◌∙◌, if◌then◌else◌}
+use Rattle.std.proofs.Common.{◌≡◌, ℕ, ◌+◌, ℤ, Bool, true, false, not, ◌&&◌, List, [], ◌∷◌, ◌++◌, map, Result, Ok, Err, refl, ◌∙◌, if◌then◌else◌}
 use Rattle.std.proofs.lemmas.List.{map-append}
 use Rattle.lp_rows.specs.Holding.{holds_at, row_fits}
 use Rattle.lp_rows.specs.Rows.{RowValue}
@@ -8,8 +8,8 @@ use Rattle.propositions.specs.Truth.{truth_of}
 use Rattle.block_tree.specs.declared.errors.Verdict.{Verdict}
 use Rattle.block_tree.specs.declared.errors.Verdict.TheVariants.{Holds, FailsAt}
 use Rattle.block_tree.specs.declared.errors.SumWide.{SumWide}
-use Rattle.block_tree.specs.Satisfied.{PointOf, is_above, is_below, is_of_kind, takes, vars_take, rows_hold, props_hold, true_count, mode_allows, is_off, are_disjunctions_off, are_disjuncts_off, is_satisfied, are_disjunctions_satisfied, are_disjuncts_satisfied, is_model_point}
-use Rattle.block_tree.specs.Tests.{Test, passes, fails, is_wide, verdict_of, test_of, sized_test, end_fits, tests_of_var, tests_of_vars, test_of_row, test_of_prop, test_of_off, tests_of_block, tests_of_disjunctions, tests_of_disjuncts, tests_of, Tells}
+use Rattle.block_tree.specs.Satisfied.{PointOf, is_above, is_below, is_of_kind, vars_take, rows_hold, props_hold, true_count, mode_allows, is_off, are_disjunctions_off, are_disjuncts_off, is_satisfied, are_disjunctions_satisfied, are_disjuncts_satisfied, is_model_point}
+use Rattle.block_tree.specs.Tests.{Test, passes, fails, verdict_of, test_of, sized_test, end_fits, tests_of_vars, test_of_row, test_of_prop, test_of_off, tests_of_block, tests_of_disjunctions, tests_of_disjuncts, tests_of, Tells}
 use Rattle.block_tree.specs.Tree.{BlockTree, block, Disjunctions, no_disjunctions, disjunction, Disjuncts, no_disjuncts, disjunct, below, below_disjunctions, below_disjuncts}
 use Rattle.block_tree.specs.Values.{ModelTree}
 use Rattle.block_tree.specs.Variables.{VarValue}

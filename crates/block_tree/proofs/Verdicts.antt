@@ -1,5 +1,5 @@
 -- The verdict of tests that stand one after another.
-use Rattle.std.proofs.Common.{◌≡◌, ℕ, suc, ◌+◌, ◌<◌, ℤ, Bool, true, false, List, [], ◌∷◌, ◌++◌, not, ◌&&◌, map, length, drop, get_or, Result, Ok, Err, refl, ap, sym, ◌∙◌, add-one, drop-cons, if◌then◌else◌}
+use Rattle.std.proofs.Common.{◌≡◌, ℕ, suc, ◌+◌, ◌<◌, ℤ, Bool, true, false, List, [], ◌∷◌, ◌++◌, not, map, length, drop, get_or, Result, Ok, Err, refl, ap, sym, ◌∙◌, add-one, drop-cons}
 use Rattle.std.proofs.lemmas.List.{map-append}
 use Rattle.propositions.specs.declared.tree.Prop.{Prop}
 use Rattle.propositions.specs.Truth.{truth_of}
@@ -10,7 +10,7 @@ use Rattle.block_tree.specs.declared.errors.SumWide.{SumWide}
 use Rattle.block_tree.specs.declared.tree.Disjunct.{Disjunct}
 use Rattle.block_tree.specs.declared.tree.Disjunction.{Disjunction}
 use Rattle.block_tree.specs.Satisfied.{PointOf}
-use Rattle.block_tree.specs.Props.{is_prop_sound}
+use Rattle.block_tree.specs.PropLimits.{is_prop_sound}
 use Rattle.block_tree.specs.Sound.{are_props_sound}
 use Rattle.block_tree.specs.Tree.{below, below_disjunctions, below_disjuncts}
 use Rattle.block_tree.specs.Tests.{Test, passes, fails, is_wide, verdict_of, tests_of_var, tests_of_vars, test_of_prop, test_of_off, tests_of_disjunctions, tests_of_disjuncts, tests_of_disjunction, tests_of_disjunct}

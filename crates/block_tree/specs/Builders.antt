@@ -1,15 +1,15 @@
 -- What a builder stands for.
-use Rattle.std.specs.Prelude.{◌≡◌, ℕ, pos, List, map, reverse, Option, None, Some}
+use Rattle.std.specs.Prelude.{◌≡◌, ℕ, pos, map, reverse, Option, None, Some}
 use Rattle.block_tree.specs.declared.parts.Level.{Level}
 use Rattle.block_tree.specs.declared.parts.Opened.{Opened}
-use Rattle.block_tree.specs.declared.parts.Goal.{Goal}
+use Rattle.block_tree.specs.declared.models.Goal.{Goal}
 use Rattle.block_tree.specs.declared.parts.Parts.{Parts}
 use Rattle.block_tree.specs.declared.parts.Totals.{Totals}
 use Rattle.lp_rows.specs.declared.kinds.Sense.{Sense}
 use Rattle.block_tree.specs.declared.scaling.Stored.{Stored}
 use Rattle.block_tree.specs.Building.{OpenBlock, OpenDisjunction, BuildingValue, rows_so_far}
 use Rattle.block_tree.specs.Props.{nodes_so_far}
-use Rattle.block_tree.specs.Values.{GoalValue}
+use Rattle.block_tree.specs.Values.{GoalValue, goal_value_of}
 use Rattle.block_tree.specs.View.{disjunct_of, disjunction_of, props_of}
 
 abbrev pub open_block_of : Level → OpenBlock
@@ -21,9 +21,6 @@ open_disjunction_of d = record { mode = d.mode; mark = d.mark; closed = map disj
 abbrev pub opened_of : Option Opened → Option OpenDisjunction
 opened_of None = None
 opened_of (Some d) = Some (open_disjunction_of d)
-
-abbrev pub goal_value_of : Goal → GoalValue
-goal_value_of g = record { sense = g.sense; terms = g.terms; constant = g.constant; scale = g.scale; mark = g.mark }
 
 -- the goal that is made of stored numbers
 abbrev pub goal_made : Sense → ℕ → Stored → Goal

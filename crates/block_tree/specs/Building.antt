@@ -1,17 +1,19 @@
 -- What a builder stands for, and what each of its calls answers and leaves.
-use Rattle.std.specs.Prelude.{ℕ, ◌+◌, ℤ, pos, ◌*ℤ◌, Bool, true, false, not, ◌&&◌, ◌||◌, List, [], ◌∷◌, ◌++◌, length, map, Option, None, Some, is_some, is_none, Result, Ok, Err, nat_lt, nat_le, ◌==◌, int_lt, unsigned_abs}
-use Rattle.std.specs.List.{list_all, list_any}
+use Rattle.std.specs.Prelude.{ℕ, ◌+◌, Bool, not, ◌&&◌, ◌||◌, List, [], ◌∷◌, ◌++◌, length, map, Option, None, Some, is_some, is_none, Result, nat_lt, nat_le}
+use Rattle.std.specs.List.{list_all}
 use Rattle.fractions.specs.Fraction.{Fraction}
 use Rattle.fractions.specs.Memory.{refuse_if, refused_or, unless}
 use Rattle.lp_rows.specs.declared.kinds.Kind.{Kind}
 use Rattle.lp_rows.specs.declared.kinds.Rel.{Rel}
-use Rattle.lp_rows.specs.declared.kinds.Sense.{Sense}
 use Rattle.lp_rows.specs.Rows.{RowValue, is_storable, has_zero, are_storable}
 use Rattle.propositions.specs.Tree.{PropTree}
 use Rattle.block_tree.specs.declared.bounds.Bound.{Bound}
 use Rattle.block_tree.specs.declared.errors.BuildError.{BuildError}
-use Rattle.block_tree.specs.declared.errors.BuildError.TheVariants.{Place, NameTwice, NameUnknown, Number, Nesting, Unclosed, Limit, Missing}
+use Rattle.block_tree.specs.declared.errors.BuildError.TheVariants.{Place, NameTwice, NameUnknown, Number, Unclosed, Limit, Missing}
 use Rattle.block_tree.specs.declared.tree.Mode.{Mode}
+use Rattle.block_tree.specs.Sound.{is_empty}
+use Rattle.block_tree.specs.Bounds.{has_small_parts, is_bound}
+use Rattle.block_tree.specs.Limits.{most_variables, most_rows}
 use Rattle.block_tree.specs.Names.{has_name, is_name}
 use Rattle.block_tree.specs.Scaling.{has_id_twice, scale_of, scaled, stored_terms}
 use Rattle.block_tree.specs.Tree.{BlockTree, block, row_count_below, row_count_within}
@@ -51,10 +53,6 @@ empty_block indicator mark = record { indicator = indicator; mark = mark; rows =
 abbrev pub new_building : BuildingValue
 new_building = record { vars = []; booleans = []; goal = None; inner = empty_block 0 0; opened = None; outer = [] }
 
--- the list is empty
-abbrev pub is_empty : {A : Type 0} → List A → Bool
-is_empty xs = length xs == 0
-
 -- the root is the innermost that is open
 abbrev pub is_at_root : BuildingValue → Bool
 is_at_root b = is_none b.opened && is_empty b.outer
@@ -63,32 +61,13 @@ is_at_root b = is_none b.opened && is_empty b.outer
 abbrev pub is_taken : List ℕ → BuildingValue → Bool
 is_taken name b = has_name name (map (λ v. v.0) b.vars) || has_name name (map (λ v. v.0) b.booleans)
 
--- both parts of the fraction may be stored
-abbrev pub has_small_parts : Fraction → Bool
-has_small_parts f = is_storable f.num && is_storable f.den
-
--- both parts of an end, where there is one, may be stored
-abbrev pub is_end_small : Option Fraction → Bool
-is_end_small None = true
-is_end_small (Some f) = has_small_parts f
-
--- the low end exceeds the high one
-abbrev pub are_crossed : Option Fraction → Option Fraction → Bool
-are_crossed None high = false
-are_crossed (Some low) None = false
-are_crossed (Some low) (Some high) = int_lt (high.num *ℤ low.den) (low.num *ℤ high.den)
-
--- a variable may have these bounds
-abbrev pub is_bound : Bound → Bool
-is_bound bound = is_end_small bound.low && is_end_small bound.high && not (are_crossed bound.low bound.high)
-
 -- why a variable is refused
 abbrev pub refusal_of_var : List ℕ → Bound → BuildingValue → Option BuildError
 refusal_of_var name bound b =
     refuse_if (not (is_at_root b)) Place
     (refuse_if (is_taken name b) NameTwice
     (refuse_if (not (is_bound bound)) Number
-    (refuse_if (nat_le 500 (length b.vars) || not (is_name name)) Limit None)))
+    (refuse_if (nat_le most_variables (length b.vars) || not (is_name name)) Limit None)))
 
 -- a variable is declared: the answer is its number
 abbrev pub var_outcome : List ℕ → Kind → Bound → ℕ → BuildingValue → Result ℕ BuildError × BuildingValue
@@ -136,7 +115,7 @@ abbrev pub refusal_of_row : List (ℕ × Fraction) → Fraction → BuildingValu
 refusal_of_row terms right b =
     refuse_if (is_some b.opened) Place
     (refusal_of_terms (length b.vars) terms right
-    (refuse_if (nat_le 1000 (rows_so_far b)) Limit None))
+    (refuse_if (nat_le most_rows (rows_so_far b)) Limit None))
 
 -- the row that is stored: scaled, its terms in the order of their ids
 abbrev pub stored_row : List (ℕ × Fraction) → Rel → Fraction → RowValue

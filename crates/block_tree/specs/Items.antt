@@ -1,5 +1,5 @@
 -- The items of a model, its propositions and disjunctions, and the condition of each.
-use Rattle.std.specs.Prelude.{◌≡◌, ◌<◌, ℕ, Bool, true, List, [], ◌∷◌, ◌++◌, length, map, Option, None, Some, slice_index_or}
+use Rattle.std.specs.Prelude.{◌≡◌, ◌<◌, ℕ, true, List, [], ◌∷◌, ◌++◌, length, map, Option, None, Some, slice_index_or}
 use Rattle.propositions.specs.Tree.{implies, all_of, exactly, at_least, PropTree, atom, paired, listed, PropTrees, no_props, prop}
 use Rattle.propositions.specs.Truth.{truth_of}
 use Rattle.block_tree.specs.declared.tree.Mode.{Mode}

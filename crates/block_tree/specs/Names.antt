@@ -1,6 +1,7 @@
 -- Which bytes are the name of a variable, a Boolean or an indicator.
 use Rattle.std.specs.Prelude.{ℕ, Bool, true, false, not, ◌&&◌, ◌||◌, List, [], ◌∷◌, length, codes, nat_le, ◌==◌, bytes_eq}
 use Rattle.std.specs.List.{list_all, list_any}
+use Rattle.block_tree.specs.Limits.{longest_name}
 
 -- a letter of ASCII
 abbrev pub is_letter : ℕ → Bool
@@ -35,4 +36,9 @@ has_name name names = list_any (bytes_eq name) names
 
 -- The bytes are a name of a model: they have its shape, there are at most 64, and they are no reserved word.
 unfoldable pub is_name : List ℕ → Bool
-is_name name = has_name_shape name && nat_le (length name) 64 && not (has_name name reserved_words)
+is_name name = has_name_shape name && nat_le (length name) longest_name && not (has_name name reserved_words)
+
+-- each is a name of a model, and no two are equal
+abbrev pub are_names : List (List ℕ) → Bool
+are_names [] = true
+are_names (n ∷ ns) = is_name n && not (has_name n ns) && are_names ns

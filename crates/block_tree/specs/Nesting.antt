@@ -1,13 +1,15 @@
 -- What the calls of a builder answer and leave that declare Booleans, open and close, and set the goal.
-use Rattle.std.specs.Prelude.{ℕ, ℤ, pos, Bool, not, ◌||◌, ◌&&◌, List, [], ◌∷◌, ◌++◌, length, Option, None, Some, is_some, Result, Ok, Err, nat_le}
+use Rattle.std.specs.Prelude.{ℕ, pos, not, ◌||◌, List, [], ◌∷◌, ◌++◌, length, Option, None, Some, is_some, Result, Ok, Err, nat_le}
 use Rattle.fractions.specs.Fraction.{Fraction}
 use Rattle.fractions.specs.Memory.{refuse_if, unless}
 use Rattle.lp_rows.specs.declared.kinds.Sense.{Sense}
 use Rattle.lp_rows.specs.Rows.{is_storable}
 use Rattle.block_tree.specs.declared.errors.BuildError.{BuildError}
-use Rattle.block_tree.specs.declared.errors.BuildError.TheVariants.{Place, NameTwice, NameUnknown, Number, Nesting, Limit, Missing}
+use Rattle.block_tree.specs.declared.errors.BuildError.TheVariants.{Place, NameTwice, Number, Nesting, Limit, Missing}
 use Rattle.block_tree.specs.declared.tree.Mode.{Mode}
-use Rattle.block_tree.specs.Building.{BuildingValue, OpenBlock, OpenDisjunction, empty_block, is_empty, is_at_root, is_taken, refusal_of_terms, closed_block}
+use Rattle.block_tree.specs.Limits.{most_booleans, deepest_disjunct}
+use Rattle.block_tree.specs.Building.{BuildingValue, OpenBlock, OpenDisjunction, empty_block, is_at_root, is_taken, refusal_of_terms, closed_block}
+use Rattle.block_tree.specs.Sound.{is_empty}
 use Rattle.block_tree.specs.Names.{is_name}
 use Rattle.block_tree.specs.Scaling.{scale_of, scaled, stored_terms}
 use Rattle.block_tree.specs.Values.{GoalValue}
@@ -18,7 +20,7 @@ abbrev pub refusal_of_boolean : List ℕ → BuildingValue → Option BuildError
 refusal_of_boolean name b =
     refuse_if (not (is_at_root b) || not (is_empty b.inner.closed)) Place
     (refuse_if (is_taken name b) NameTwice
-    (refuse_if (nat_le 200 (length b.booleans) || not (is_name name)) Limit None))
+    (refuse_if (nat_le most_booleans (length b.booleans) || not (is_name name)) Limit None))
 
 -- a Boolean is declared: the answer is its number
 abbrev pub boolean_outcome : List ℕ → ℕ → BuildingValue → Result ℕ BuildError × BuildingValue
@@ -55,8 +57,8 @@ open_disjunction_outcome mode mark b =
 abbrev pub refusal_of_disjunct : List ℕ → BuildingValue → Option BuildError
 refusal_of_disjunct name b =
     refuse_if (is_taken name b) NameTwice
-    (refuse_if (nat_le 8 (length b.outer)) Nesting
-    (refuse_if (nat_le 200 (length b.booleans) || not (is_name name)) Limit None))
+    (refuse_if (nat_le deepest_disjunct (length b.outer)) Nesting
+    (refuse_if (nat_le most_booleans (length b.booleans) || not (is_name name)) Limit None))
 
 -- a disjunct is opened in this open disjunction: its indicator is the next Boolean
 abbrev pub with_disjunct : List ℕ → ℕ → BuildingValue → OpenDisjunction → BuildingValue

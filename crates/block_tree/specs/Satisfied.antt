@@ -1,5 +1,5 @@
 -- When a point satisfies a model. Nothing here knows of width or of an order of tests.
-use Rattle.std.specs.Prelude.{ℕ, ◌+◌, suc, ℤ, pos, ◌*ℤ◌, Bool, true, false, not, ◌&&◌, List, [], ◌∷◌, Option, None, Some, ◌%◌, ◌==◌, nat_eq, nat_le, int_le, unsigned_abs, slice_index_or, if◌then◌else◌}
+use Rattle.std.specs.Prelude.{ℕ, ◌+◌, suc, ℤ, ◌*ℤ◌, Bool, true, false, not, ◌&&◌, List, [], ◌∷◌, Option, None, Some, ◌%◌, ◌==◌, nat_eq, nat_le, int_le, unsigned_abs, slice_index_or, if◌then◌else◌}
 use Rattle.std.specs.List.{list_all}
 use Rattle.fractions.specs.Fraction.{Fraction}
 use Rattle.int_linear.specs.Sums.{at}

@@ -1,7 +1,8 @@
 -- Rows and goals of fractions, multiplied by the least positive whole number that makes them whole.
-use Rattle.std.specs.Prelude.{ℕ, zero, suc, ◌*◌, ◌/◌, ◌%◌, ℤ, pos, ◌*ℤ◌, Bool, true, false, ◌&&◌, ◌||◌, List, [], ◌∷◌, map, All, unsigned_abs, if◌then◌else◌, nat_lt, ◌==◌}
+use Rattle.std.specs.Prelude.{ℕ, zero, suc, ◌*◌, ◌/◌, ◌%◌, ℤ, pos, ◌*ℤ◌, Bool, false, ◌||◌, List, [], ◌∷◌, map, All, unsigned_abs, if◌then◌else◌, nat_lt, ◌==◌}
 use Rattle.std.specs.List.{list_all, list_any}
-use Rattle.fractions.specs.Fraction.{Fraction, IsLowest}
+use Rattle.fractions.specs.Fraction.{Fraction}
+use Rattle.block_tree.specs.Bounds.{IsInLowest}
 
 -- the whole number d divides k
 abbrev pub is_multiple : ℕ → ℕ → Bool
@@ -36,10 +37,6 @@ denominators ts = map (λ t. unsigned_abs t.1.den) ts
 -- each of these is positive
 abbrev pub are_positive : List ℕ → Bool
 are_positive ds = list_all (λ d. nat_lt 0 d) ds
-
--- the fraction is in lowest terms
-abbrev pub IsInLowest : Fraction → Type 0
-IsInLowest f = IsLowest f.num f.den
 
 -- the terms and the number are in lowest terms
 abbrev pub AreLowest : List (ℕ × Fraction) → Fraction → Type 0

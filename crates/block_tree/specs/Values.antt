@@ -2,6 +2,7 @@
 use Rattle.std.specs.Prelude.{ℕ, ℤ, pos, List, []}
 use Rattle.lp_rows.specs.declared.kinds.Sense.{Sense}
 use Rattle.lp_rows.specs.declared.kinds.Sense.TheVariants.{Min}
+use Rattle.block_tree.specs.declared.models.Goal.{Goal}
 use Rattle.block_tree.specs.Variables.{VarValue, BooleanValue}
 use Rattle.block_tree.specs.declared.tree.Block.{Block}
 use Rattle.block_tree.specs.Tree.{BlockTree}
@@ -36,3 +37,7 @@ pub record ModelTree : Type 0 where
 -- the plain data that a model is
 abbrev pub model_tree : ModelValue → ModelTree
 model_tree m = record { vars = m.vars; booleans = m.booleans; goal = m.goal; root = block_of m.root }
+
+-- what a stored goal stands for
+abbrev pub goal_value_of : Goal → GoalValue
+goal_value_of g = record { sense = g.sense; terms = g.terms; constant = g.constant; scale = g.scale; mark = g.mark }

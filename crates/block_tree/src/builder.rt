@@ -13,7 +13,7 @@ ghost use Rattle.block_tree.specs.Nesting.{
   close_outcome,
 };
 ghost use Rattle.block_tree.specs.Props.{prop_outcome};
-ghost use Rattle.block_tree.specs.Sound.{IsWhole};
+ghost use Rattle.block_tree.specs.Whole.{IsWhole};
 ghost use Rattle.block_tree.specs.Values.{model_tree};
 ghost use Rattle.propositions.specs.View.{prop_tree};
 

@@ -1,7 +1,7 @@
-//! The limits that each proposition keeps.
+//! The limits of a model, each named once, and the tests that a proposition keeps its own.
 
 ghost use Rattle.std.specs.Prelude.{◌≡◌};
-ghost use Rattle.block_tree.specs.Props.{
+ghost use Rattle.block_tree.specs.PropLimits.{
   has_small_numbers as are_numbers_small,
   is_shallow_prop,
   has_fair_lists as are_lists_fair,
@@ -9,6 +9,21 @@ ghost use Rattle.block_tree.specs.Props.{
 ghost use Rattle.propositions.specs.View.{prop_tree};
 
 use propositions::{Prop, depth, greatest_number, has_empty_list, most_arguments};
+
+/// The most variables of a model.
+pub const MOST_VARIABLES: usize = 500;
+
+/// The most Booleans of a model, indicators included.
+pub const MOST_BOOLEANS: usize = 200;
+
+/// The most rows of all blocks of a model.
+pub const MOST_ROWS: u32 = 1_000;
+
+/// The deepest that a disjunct may stand.
+pub const DEEPEST_DISJUNCT: usize = 8;
+
+/// The most bytes of a name.
+pub const LONGEST_NAME: usize = 64;
 
 /// The most nodes of all propositions of a model.
 pub const MOST_NODES: usize = 5_000;

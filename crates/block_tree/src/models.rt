@@ -7,11 +7,20 @@ ghost use Rattle.block_tree.specs.Values.{model_tree};
 
 use crate::bounds::Bound;
 use crate::declarations::{Booleans, Variables};
-use crate::parts::Goal;
 use crate::tree::Block;
 use gdp_io::Name;
-use lp_rows::{Kind, Sense};
+use lp_rows::{Kind, Sense, Terms};
 use std::marker;
+
+/// A goal.
+#[derive(Drop)]
+pub(crate) struct Goal {
+    pub(crate) sense: Sense,
+    pub(crate) terms: Terms,
+    pub(crate) constant: i128,
+    pub(crate) scale: i128,
+    pub(crate) mark: u32,
+}
 
 /// A model: variables, Booleans, a goal and a root block.
 ///
@@ -28,8 +37,7 @@ pub struct Model {
 impl marker::Model for Model {
     ghost use Rattle.std.specs.Coded.{codes};
     ghost use Rattle.block_tree.specs.contracts.tree.Block as block_row;
-    ghost use Rattle.block_tree.specs.Values.{ModelValue, model_tree};
-    ghost use Rattle.block_tree.specs.Builders.{goal_value_of};
+    ghost use Rattle.block_tree.specs.Values.{ModelValue, model_tree, goal_value_of};
     ghost use Rattle.block_tree.specs.Sound.{IsSound};
 
     ghost Value = { ModelValue };

@@ -12,13 +12,11 @@ ghost use Rattle.block_tree.specs.Names.{
   reserved_words,
 };
 
+use crate::limits::LONGEST_NAME;
 use fractions::Memory;
 use indexmap::IndexSet;
 use std::alloc::Global;
 use std::marker::Model;
-
-/// The most bytes of a name.
-pub const LONGEST_NAME: usize = 64;
 
 /// Whether the text is a name of a model: a letter or `_`, then letters, digits, `_` and `.`, at most 64 bytes, and
 /// none of the words that mean something in a model text.

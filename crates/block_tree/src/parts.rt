@@ -28,23 +28,26 @@ ghost use Rattle.block_tree.specs.Builders.{
   building_of,
   open_block_of,
   open_disjunction_of,
-  goal_value_of,
   goal_made,
   given_goal,
   IsCounted,
 };
+ghost use Rattle.block_tree.specs.Values.{goal_value_of, model_tree};
 ghost use Rattle.block_tree.specs.Props.{prop_outcome};
 ghost use Rattle.propositions.specs.View.{prop_tree};
 ghost use Rattle.block_tree.specs.Scaling.{AreLowest};
-ghost use Rattle.block_tree.specs.Sound.{IsWhole, AreEndsLowest};
-ghost use Rattle.block_tree.specs.Values.{model_tree};
+ghost use Rattle.block_tree.specs.Bounds.{AreEndsLowest};
+ghost use Rattle.block_tree.specs.Whole.{IsWhole};
 ghost use Rattle.block_tree.specs.View.{block_of, disjunct_of, disjunction_of};
 
 use crate::bounds::Bound;
 use crate::declarations::{Booleans, Variables};
 use crate::errors::BuildError;
-use crate::limits::{MOST_NODES, has_fair_lists, has_small_numbers, is_shallow};
-use crate::models::Model;
+use crate::limits::{
+    DEEPEST_DISJUNCT, MOST_BOOLEANS, MOST_NODES, MOST_ROWS, MOST_VARIABLES, has_fair_lists,
+    has_small_numbers, is_shallow,
+};
+use crate::models::{Goal, Model};
 use crate::names::is_name;
 use crate::scaling::{Stored, is_bound as is_sound_bound, stored_numbers, stored_row};
 use crate::tree::{Block, Disjunct, Disjunction, Mode};
@@ -52,18 +55,6 @@ use fractions::Frac;
 use lp_rows::{Kind, Rel, Row, Sense, Terms, is_storable};
 use propositions::{Prop, copy, has_ids_below, node_count};
 use std::alloc::Global;
-
-/// The most variables of a model.
-pub const MOST_VARIABLES: usize = 500;
-
-/// The most Booleans of a model, indicators included.
-pub const MOST_BOOLEANS: usize = 200;
-
-/// The deepest that a disjunct may stand.
-pub const DEEPEST_DISJUNCT: usize = 8;
-
-/// The most rows of all blocks of a model.
-pub const MOST_ROWS: u32 = 1_000;
 
 /// A block that is open.
 #[derive(Drop)]
@@ -81,16 +72,6 @@ pub(crate) struct Opened {
     pub(crate) mode: Mode,
     pub(crate) mark: u32,
     pub(crate) disjuncts: Vec<Disjunct>,
-}
-
-/// A goal.
-#[derive(Drop)]
-pub(crate) struct Goal {
-    pub(crate) sense: Sense,
-    pub(crate) terms: Terms,
-    pub(crate) constant: i128,
-    pub(crate) scale: i128,
-    pub(crate) mark: u32,
 }
 
 /// How many rows all blocks have, and how many nodes all propositions.

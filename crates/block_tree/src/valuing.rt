@@ -3,12 +3,11 @@
 ghost use Rattle.std.specs.Prelude.{◌≡◌, ◌<ℤ◌, true, pos, length, IfOk, is_ok};
 ghost use Rattle.fractions.specs.Fraction.{IsReduced};
 ghost use Rattle.lp_rows.specs.Holding.{ids_below};
-ghost use Rattle.block_tree.specs.Builders.{goal_value_of};
+ghost use Rattle.block_tree.specs.Values.{goal_value_of};
 ghost use Rattle.block_tree.specs.Worth.{IsValueOf, value_fits};
 
 use crate::errors::ValueWide;
-use crate::models::Model;
-use crate::parts::Goal;
+use crate::models::{Goal, Model};
 use crate::satisfying::product;
 use fractions::{Frac, add_product};
 use lp_rows::{Point, sum_at};

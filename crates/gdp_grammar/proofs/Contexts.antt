@@ -1,7 +1,8 @@
 -- What stands before and around a block whose lines are read again.
-use Rattle.std.proofs.Common.{◌≡◌, ℕ, ◌+◌, ◌≤◌, true, List, [], ◌∷◌, ◌++◌, length, map, take, Option, Some, None, refl, arith}
+use Rattle.std.proofs.Common.{◌≡◌, ◌+◌, ◌≤◌, true, List, [], ◌∷◌, ◌++◌, length, map, take, Option, Some, None, refl, arith}
 use Rattle.block_tree.specs.Building.{BuildingValue, OpenBlock, OpenDisjunction}
-use Rattle.block_tree.specs.Sound.{are_names, are_last_of}
+use Rattle.block_tree.specs.Names.{are_names}
+use Rattle.block_tree.specs.Sound.{are_last_of}
 use Rattle.block_tree.specs.Tree.{DisjunctHead}
 use Rattle.block_tree.specs.Values.{GoalValue, ModelTree}
 use Rattle.block_tree.specs.Variables.{VarValue, BooleanValue}

@@ -13,11 +13,11 @@ use Rattle.lp_rows.specs.declared.rows.RowError.{RowError}
 use Rattle.lp_rows.specs.Rows.{RowValue, is_storable, ascends_from, has_zero, are_storable, row_refusal}
 use Rattle.block_tree.specs.declared.errors.BuildError.{BuildError}
 use Rattle.block_tree.specs.declared.errors.BuildError.TheVariants.{Limit}
-use Rattle.block_tree.specs.Building.{BuildingValue, is_at_root, is_taken, is_bound, are_ids_below, refusal_of_terms, rows_so_far}
-use Rattle.block_tree.specs.Names.{is_name}
+use Rattle.block_tree.specs.Bounds.{is_bound}
+use Rattle.block_tree.specs.Building.{BuildingValue, is_at_root, is_taken, are_ids_below, refusal_of_terms, rows_so_far}
+use Rattle.block_tree.specs.Names.{is_name, are_names}
 use Rattle.block_tree.specs.Nesting.{goal_outcome, refusal_of_scale}
 use Rattle.block_tree.specs.Scaling.{divides_all, is_multiple}
-use Rattle.block_tree.specs.Sound.{are_names}
 use Rattle.block_tree.specs.Values.{GoalValue}
 use Rattle.block_tree.specs.Variables.{VarValue}
 use Rattle.block_tree.proofs.Multiples.{divides}

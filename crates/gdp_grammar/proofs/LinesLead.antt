@@ -2,9 +2,7 @@
 use Rattle.std.proofs.Common.{◌≡◌, ℕ, ◌+◌, ◌^◌, ◌<◌, ℤ, pos, int_lt, Bool, true, false, ◌&&◌, not, nat_le, ◌==◌, if◌then◌else◌, List, [], ◌∷◌, ◌++◌, length, codes, Option, None, Some, Result, Ok, refl, ap, sym, subst, ◌∙◌, arith}
 use Rattle.std.specs.Prelude.{unsigned_abs}
 use Rattle.std.specs.List.{list_all}
-use Rattle.std.specs.Str.{bytes_eq}
 use Rattle.std.specs.Fmt as fmt
-use Rattle.std.proofs.lemmas.Slice.Eq.{bytes_eq-Decides}
 use Rattle.std.proofs.lemmas.Bool.Decides.{nat_tests}
 use Rattle.fractions.specs.Fraction as fraction
 use Rattle.lp_rows.specs.declared.kinds.Kind.{Kind}
@@ -25,7 +23,7 @@ use Rattle.gdp_grammar.specs.Forms.{Form, form_of}
 use Rattle.gdp_grammar.specs.Lines.{without_comment}
 use Rattle.gdp_grammar.specs.Reading.{Taken, with_form, with_tokens, with_content, with_line}
 use Rattle.gdp_grammar.specs.Spelling.{Leads}
-use Rattle.gdp_grammar.specs.Tokens.{Piece, Word, Number, Mark, Stray, tokens_of}
+use Rattle.gdp_grammar.specs.Tokens.{Piece, tokens_of}
 use Rattle.gdp_grammar.proofs.Again.{both, and_true, all_appended, all_weaker, is_printed, are_printed, without_comment_again, decimal_digits}
 use Rattle.gdp_grammar.proofs.LinesAgain.{IsShort, IsEndShort, AreTermsAgain}
 

@@ -12,7 +12,8 @@ use Rattle.lp_rows.specs.Rows.{RowValue}
 use Rattle.block_tree.specs.declared.bounds.Bound.{Bound}
 use Rattle.block_tree.specs.declared.errors.BuildError.{BuildError}
 use Rattle.block_tree.specs.declared.errors.BuildError.TheVariants as refusal
-use Rattle.block_tree.specs.Building.{BuildingValue, OpenBlock, OpenDisjunction, empty_block, is_empty, is_at_root, is_taken, refusal_of_var, refusal_of_row, stored_row, built_model}
+use Rattle.block_tree.specs.Building.{BuildingValue, OpenBlock, OpenDisjunction, empty_block, is_at_root, is_taken, refusal_of_var, refusal_of_row, stored_row, built_model}
+use Rattle.block_tree.specs.Sound.{is_empty}
 use Rattle.block_tree.specs.Nesting.{refusal_of_boolean, refusal_of_goal, stored_goal, refusal_of_disjunct, with_disjunct, open_disjunct_in, closed_disjunct, closed_disjunction, close_disjunct, close_opened}
 use Rattle.block_tree.specs.Props.{refusal_of_prop}
 use Rattle.block_tree.specs.Values.{ModelTree}

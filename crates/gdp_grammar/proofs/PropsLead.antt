@@ -1,17 +1,17 @@
 -- The lines of a block's propositions lead on.
-use Rattle.std.proofs.Common.{◌≡◌, ℕ, zero, suc, ◌+◌, ◌^◌, ◌<◌, ◌≤◌, Bool, true, false, ◌&&◌, ◌||◌, not, nat_le, List, [], ◌∷◌, ◌++◌, length, map, take, codes, Option, None, Some, Ok, refl, ap, sym, ◌∙◌, append_assoc, append-nil, length-append, arith}
+use Rattle.std.proofs.Common.{◌≡◌, ℕ, zero, suc, ◌+◌, ◌^◌, ◌<◌, ◌≤◌, Bool, true, false, ◌&&◌, ◌||◌, not, nat_le, List, [], ◌∷◌, ◌++◌, length, map, take, Option, None, Ok, refl, ap, sym, ◌∙◌, append_assoc, append-nil, arith}
 use Rattle.std.specs.List.{list_all}
 use Rattle.std.specs.Str.{bytes_eq}
 use Rattle.std.proofs.lemmas.Bool.Decides.{nat_tests}
-use Rattle.fractions.specs.Memory.{refuse_if as build_refuse_if}
-use Rattle.propositions.specs.Sizes.{depth_of, node_count_of, most_arguments_of, greatest_number_of, has_empty_list_of}
+use Rattle.propositions.specs.Sizes.{node_count_of, most_arguments_of, greatest_number_of, has_empty_list_of}
 use Rattle.propositions.specs.Tree.{PropTree}
 use Rattle.propositions.specs.Truth.{are_ids_below}
 use Rattle.block_tree.specs.Building.{BuildingValue, OpenBlock, OpenDisjunction}
 use Rattle.block_tree.specs.Earlier.{name_only_first}
-use Rattle.block_tree.specs.Names.{has_name, is_name}
-use Rattle.block_tree.specs.Props.{has_small_numbers, is_shallow_prop, has_fair_lists, is_prop_sound, nodes_so_far, refusal_of_prop}
-use Rattle.block_tree.specs.Sound.{are_names, are_props_sound}
+use Rattle.block_tree.specs.Names.{has_name, is_name, are_names}
+use Rattle.block_tree.specs.PropLimits.{has_small_numbers, is_shallow_prop, has_fair_lists, is_prop_sound}
+use Rattle.block_tree.specs.Props.{nodes_so_far, refusal_of_prop}
+use Rattle.block_tree.specs.Sound.{are_props_sound}
 use Rattle.block_tree.specs.Tree.{nodes_of_props}
 use Rattle.block_tree.specs.Values.{GoalValue, ModelTree}
 use Rattle.block_tree.specs.Variables.{VarValue, BooleanValue}
@@ -23,7 +23,6 @@ use Rattle.gdp_grammar.specs.PropReading.{prop_of}
 use Rattle.gdp_grammar.specs.PropTexts.{NamedProp, pieces_of}
 use Rattle.gdp_grammar.specs.Reading.{with_logic, with_line}
 use Rattle.gdp_grammar.specs.Spelling.{Leads}
-use Rattle.gdp_grammar.specs.Tokens.{tokens_of}
 use Rattle.gdp_grammar.proofs.Again.{both, and_true, is_printed, are_printed}
 use Rattle.gdp_grammar.proofs.Contexts.{IsContext, in_block}
 use Rattle.gdp_grammar.proofs.LinesLead.{headed, line_lead, leads_to}

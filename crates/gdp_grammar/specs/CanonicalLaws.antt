@@ -1,9 +1,8 @@
 -- Laws of the canonical text. Each is the contract of a function of `canonical_laws`.
-use Rattle.std.specs.Prelude.{◌≡◌, ℕ, Bool, true, ◌&&◌, List, map, is_none}
-use Rattle.std.specs.List.{list_all}
-use Rattle.lp_rows.specs.Rows.{RowValue, row_refusal}
+use Rattle.std.specs.Prelude.{◌≡◌, ℕ, true, List, map}
+use Rattle.lp_rows.specs.Rows.{RowValue}
 use Rattle.propositions.specs.Tree.{PropTree}
-use Rattle.block_tree.specs.Sound.{IsSound}
+use Rattle.block_tree.specs.Sound.{IsSound, is_stored}
 use Rattle.block_tree.specs.Tree.{BlockTree, block, Disjunctions, no_disjunctions, disjunction, Disjuncts, no_disjuncts, disjunct}
 use Rattle.block_tree.specs.Values.{GoalValue, ModelTree}
 use Rattle.block_tree.specs.Variables.{VarValue, BooleanValue}
@@ -50,22 +49,6 @@ unmarked m = record { vars = unmarked_vars m.vars; booleans = unmarked_booleans 
 -- two models are the same but for their marks
 abbrev pub AreSame : ModelTree → ModelTree → Type 0
 AreSame m n = unmarked m ≡ unmarked n
-
--- in a block and below it each row is one that is stored
-abbrev pub are_rows_stored : List (RowValue × ℕ) → Bool
-are_rows_stored rows = list_all (λ r. is_none (row_refusal r.0.terms r.0.right)) rows
-
-abbrev mutual
-  pub is_stored : BlockTree → Bool
-  is_stored (block items ds) = are_rows_stored items.rows && are_disjunctions_stored ds
-
-  pub are_disjunctions_stored : Disjunctions → Bool
-  are_disjunctions_stored no_disjunctions = true
-  are_disjunctions_stored (disjunction head js ds) = are_disjuncts_stored js && are_disjunctions_stored ds
-
-  pub are_disjuncts_stored : Disjuncts → Bool
-  are_disjuncts_stored no_disjuncts = true
-  are_disjuncts_stored (disjunct head b js) = is_stored b && are_disjuncts_stored js
 
 -- The canonical text of a model spells a model that is the same but for its marks.
 abbrev pub CanonicalSpells : Type 0

@@ -5,7 +5,7 @@ use Rattle.block_tree.specs.declared.tree.Disjunct.{Disjunct}
 use Rattle.block_tree.specs.declared.tree.Disjunction.{Disjunction}
 use Rattle.block_tree.specs.Tree.{BlockTree, block, Disjunctions}
 use Rattle.block_tree.specs.View.{disjuncts_of, disjunctions_of, disjunct_of, disjunction_of, rows_in, disjunctions_in}
-use Rattle.gdp_grammar.specs.CanonicalLaws.{are_rows_stored, is_stored, are_disjunctions_stored, are_disjuncts_stored}
+use Rattle.block_tree.specs.Sound.{are_rows_stored, is_stored, are_disjunctions_stored, are_disjuncts_stored}
 
 both : (a b : Bool) → a ≡ true → b ≡ true → (a && b) ≡ true
 both true b p q = q

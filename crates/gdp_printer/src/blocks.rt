@@ -2,8 +2,15 @@
 
 ghost use Rattle.std.specs.Prelude.{◌≡◌, ◌∷◌, [], ◌++◌, OnOk, true, codes, map};
 ghost use Rattle.block_tree.specs.Values.{model_tree};
-ghost use Rattle.block_tree.specs.View.{block_of, disjunct_of, disjunction_of, disjuncts_of, disjunctions_of, props_of};
-ghost use Rattle.gdp_grammar.specs.CanonicalLaws.{
+ghost use Rattle.block_tree.specs.View.{
+  block_of,
+  disjunct_of,
+  disjunction_of,
+  disjuncts_of,
+  disjunctions_of,
+  props_of,
+};
+ghost use Rattle.block_tree.specs.Sound.{
   are_rows_stored,
   is_stored,
   are_disjunctions_stored,

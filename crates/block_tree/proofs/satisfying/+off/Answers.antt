@@ -1,4 +1,4 @@
-use Rattle.std.proofs.Common.{ℕ, Bool, false, slice_index_or, ◌∙◌}
+use Rattle.std.proofs.Common.{false, slice_index_or, ◌∙◌}
 use Rattle.block_tree.proofs.Verdicts.{goes_on, fails_here, wide_here, disjunctions_off_at, disjuncts_off_at}
 use Rattle.block_tree.proofs.satisfying.+off.Goals as goal
 

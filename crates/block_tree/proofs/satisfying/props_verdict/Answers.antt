@@ -1,5 +1,4 @@
 use Rattle.std.proofs.Common.{◌≡◌, rules, true, false, slice_index_or, sym, ◌∙◌, length}
-use Rattle.std.proofs.lemmas.Grind.{common_steps}
 use Rattle.block_tree.proofs.Verdicts.{props_at, props_sound_at, not_refused}
 use Rattle.block_tree.proofs.satisfying.props_verdict.Goals as goal
 

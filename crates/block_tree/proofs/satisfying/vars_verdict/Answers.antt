@@ -1,4 +1,4 @@
-use Rattle.std.proofs.Common.{rules, ◌≡◌, ◌∙◌, FitsSigned, to_z, of_z}
+use Rattle.std.proofs.Common.{rules, ◌∙◌, FitsSigned, to_z, of_z}
 use Rattle.std.proofs.lemmas.Int.{to_z-of_z}
 use Rattle.int_linear.specs.Sums.{at}
 use Rattle.block_tree.proofs.Verdicts.{goes_on, fails_here, wide_here, vars_at}

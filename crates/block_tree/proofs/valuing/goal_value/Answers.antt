@@ -1,4 +1,4 @@
-use Rattle.std.proofs.Common.{rules, ◌≡◌, true, subst, FitsSigned, to_z, of_z, ℤ, pos, ◌<ℤ◌, ◌*ℤ◌, arith}
+use Rattle.std.proofs.Common.{rules, ◌≡◌, true, subst, FitsSigned, pos, ◌<ℤ◌, ◌*ℤ◌, arith}
 use Rattle.std.proofs.lemmas.Int.{to_z-of_z, ints}
 use mir.Syntax.{w128}
 use Rattle.int_linear.proofs.Ring.{mul_pos}

@@ -1,7 +1,7 @@
 use Rattle.block_tree.specs.declared.errors.BuildError.TheVariants.{Memory}
 use Rattle.block_tree.specs.Builders.{building_of}
 use Rattle.block_tree.specs.Nesting.{open_disjunct_outcome}
-use Rattle.block_tree.specs.Sound.{IsWhole}
+use Rattle.block_tree.specs.Whole.{IsWhole}
 use Rattle.block_tree.proofs.Keeping.{acts_keep, counted_keeps}
 use Rattle.block_tree.proofs.Nested.{open_disjunct_keeps_whole, open_disjunct_keeps_counted}
 use Rattle.block_tree.proofs.builder.ModelBuilder.open_disjunct.Goals as goal

@@ -2,7 +2,7 @@ use Rattle.propositions.specs.View.{prop_tree}
 use Rattle.block_tree.specs.declared.errors.BuildError.TheVariants.{Memory}
 use Rattle.block_tree.specs.Builders.{building_of}
 use Rattle.block_tree.specs.Props.{prop_outcome}
-use Rattle.block_tree.specs.Sound.{IsWhole}
+use Rattle.block_tree.specs.Whole.{IsWhole}
 use Rattle.block_tree.proofs.Keeping.{acts_keep}
 use Rattle.block_tree.proofs.Propositions.{prop_keeps_whole}
 use Rattle.block_tree.proofs.builder.ModelBuilder.prop.Goals as goal

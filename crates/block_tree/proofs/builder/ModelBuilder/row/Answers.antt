@@ -1,8 +1,9 @@
 use Rattle.block_tree.specs.declared.errors.BuildError.TheVariants.{Memory}
 use Rattle.block_tree.specs.Builders.{building_of}
 use Rattle.block_tree.specs.Building.{row_outcome}
-use Rattle.block_tree.specs.Sound.{IsWhole}
-use Rattle.block_tree.proofs.Keeping.{acts_keep, row_keeps_whole}
+use Rattle.block_tree.specs.Whole.{IsWhole}
+use Rattle.block_tree.proofs.Keeping.{acts_keep}
+use Rattle.block_tree.proofs.Nested.{row_keeps_whole}
 use Rattle.block_tree.proofs.builder.ModelBuilder.row.Goals as goal
 
 pub invariant_of-self : goal.invariant_of-self

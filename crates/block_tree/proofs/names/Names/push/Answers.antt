@@ -1,4 +1,4 @@
-use Rattle.std.proofs.Common.{◌≡◌, ◌++◌, ◌∷◌, [], false, ◌∙◌, ap, string_bytes}
+use Rattle.std.proofs.Common.{◌++◌, ◌∷◌, [], ◌∙◌, ap, string_bytes}
 use Rattle.block_tree.specs.Names.{has_name}
 use Rattle.block_tree.proofs.Named.{pushed}
 use Rattle.block_tree.proofs.names.Names.push.Goals as goal

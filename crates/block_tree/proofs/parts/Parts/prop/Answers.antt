@@ -1,4 +1,4 @@
-use Rattle.std.proofs.Common.{◌≡◌, ℕ, ◌+◌, ◌^◌, ◌-◌, ◌<◌, ◌≤◌, min, List, [], ◌∷◌, ◌++◌, ap, ◌∙◌, arith, rules}
+use Rattle.std.proofs.Common.{◌≡◌, ◌+◌, ◌^◌, ◌-◌, [], ◌∷◌, ◌++◌, ap, ◌∙◌, arith, rules}
 use Rattle.propositions.specs.Sizes.{node_count_of}
 use Rattle.propositions.specs.View.{prop_tree}
 use Rattle.block_tree.specs.Tree.{nodes_of_props}
