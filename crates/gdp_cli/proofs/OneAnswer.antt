@@ -1,12 +1,12 @@
 -- A table has at most one answer, and so has each command.
 use Rattle.std.proofs.Common.{◌≡◌, ℕ, Bool, List, Result, Ok, Err, sym, ◌∙◌, subst, ap, inl, inr}
 use Rattle.lp_rows.specs.Points.{PointValue}
-use Rattle.block_tree.specs.declared.errors.Verdict.{Verdict}
-use Rattle.block_tree.specs.declared.errors.Verdict.TheVariants.{Holds, FailsAt}
-use Rattle.block_tree.specs.declared.errors.SumWide.{SumWide}
-use Rattle.block_tree.specs.Satisfied.{point_of}
-use Rattle.block_tree.specs.Tests.{tests_of, verdict_of}
-use Rattle.block_tree.specs.Values.{ModelTree}
+use Rattle.point_tests.specs.declared.verdicts.Verdict.{Verdict}
+use Rattle.point_tests.specs.declared.verdicts.Verdict.TheVariants.{Holds, FailsAt}
+use Rattle.point_tests.specs.declared.verdicts.SumWide.{SumWide}
+use Rattle.point_tests.specs.Satisfied.{point_of}
+use Rattle.point_tests.specs.Tests.{tests_of, verdict_of}
+use Rattle.model_tree.specs.Values.{ModelTree}
 use Rattle.gdp_grammar.specs.declared.cause.ReadCause.{ReadCause}
 use Rattle.gdp_grammar.specs.Canonical.{canonical_text}
 use Rattle.gdp_grammar.proofs.Once.{one_model, never_both, one_first_bad}

@@ -4,11 +4,11 @@ use Rattle.std.specs.Result.{IfOk}
 use Rattle.fractions.specs.declared.memory.Memory.{Memory}
 use Rattle.gdp_io.specs.Shelf.{Contents, SameContents, IsBehind}
 use Rattle.lp_rows.specs.Points.{PointValue}
-use Rattle.block_tree.specs.declared.errors.Verdict.{Verdict}
-use Rattle.block_tree.specs.declared.errors.SumWide.{SumWide}
-use Rattle.block_tree.specs.Satisfied.{point_of}
-use Rattle.block_tree.specs.Tests.{tests_of, verdict_of}
-use Rattle.block_tree.specs.Values.{ModelTree}
+use Rattle.point_tests.specs.declared.verdicts.Verdict.{Verdict}
+use Rattle.point_tests.specs.declared.verdicts.SumWide.{SumWide}
+use Rattle.point_tests.specs.Satisfied.{point_of}
+use Rattle.point_tests.specs.Tests.{tests_of, verdict_of}
+use Rattle.model_tree.specs.Values.{ModelTree}
 use Rattle.gdp_grammar.specs.Points.{SpellsPoint}
 use Rattle.gdp_grammar.specs.Spelling.{Spells}
 use Rattle.gdp_cli.specs.declared.messages.Reply.{Reply}

@@ -1,12 +1,12 @@
 -- What `test MODEL POINT` answers for two texts.
 use Rattle.std.specs.Prelude.{ℕ, Bool, List, Result, Ok, Err}
 use Rattle.lp_rows.specs.Points.{PointValue}
-use Rattle.block_tree.specs.declared.errors.Verdict.{Verdict}
-use Rattle.block_tree.specs.declared.errors.Verdict.TheVariants.{Holds, FailsAt}
-use Rattle.block_tree.specs.declared.errors.SumWide.{SumWide}
-use Rattle.block_tree.specs.Satisfied.{point_of}
-use Rattle.block_tree.specs.Tests.{tests_of, verdict_of}
-use Rattle.block_tree.specs.Values.{ModelTree}
+use Rattle.point_tests.specs.declared.verdicts.Verdict.{Verdict}
+use Rattle.point_tests.specs.declared.verdicts.Verdict.TheVariants.{Holds, FailsAt}
+use Rattle.point_tests.specs.declared.verdicts.SumWide.{SumWide}
+use Rattle.point_tests.specs.Satisfied.{point_of}
+use Rattle.point_tests.specs.Tests.{tests_of, verdict_of}
+use Rattle.model_tree.specs.Values.{ModelTree}
 use Rattle.gdp_cli.specs.declared.status.Status.TheVariants.{Done, No, Text, GaveUp}
 use Rattle.gdp_cli.specs.Messages.{too_long, holds, fails_at, wide_at}
 use Rattle.gdp_cli.specs.Table.{Rows, Row, Last}

@@ -1,7 +1,7 @@
 -- What texts that are read answer.
 use Rattle.std.specs.Prelude.{◌<◌, ℕ, Bool, List, length}
 use Rattle.lp_rows.specs.Points.{PointValue}
-use Rattle.block_tree.specs.Values.{ModelTree}
+use Rattle.model_tree.specs.Values.{ModelTree}
 use Rattle.gdp_grammar.specs.Spelling.{Spells, IsFirstBad}
 use Rattle.gdp_grammar.specs.Points.{SpellsPoint, IsFirstBadOfPoint}
 use Rattle.gdp_cli.specs.declared.status.Status.TheVariants.{Text}

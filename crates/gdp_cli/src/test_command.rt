@@ -4,17 +4,18 @@ ghost use Rattle.gdp_cli.specs.Answers.{Answers};
 ghost use Rattle.gdp_cli.specs.Statuses.{IsWorked};
 ghost use Rattle.gdp_cli.specs.Test.{TestSays, TestedSays, VerdictSays};
 ghost use Rattle.gdp_cli.specs.Texts.{IsLong, ModelSays, PointSays};
-ghost use Rattle.block_tree.specs.Values.{model_tree};
+ghost use Rattle.model_tree.specs.Values.{model_tree};
 ghost use Rattle.gdp_cli.specs.Table.{IsOne};
 ghost use Rattle.gdp_cli.specs.Words.Form.{Test};
 
 use crate::messages::{Reply, make_line, make_place};
 use crate::status::Status;
 use crate::texts::{LIMIT, read_failed, refuse_at};
-use block_tree::{Model, SumWide, Verdict, satisfies};
 use fractions::Memory;
 use gdp_io::{Shelf, Text, read_all};
 use gdp_reader::{ReadError, read_model, read_point};
+use model_tree::Model;
+use point_tests::{SumWide, Verdict, satisfies};
 use std::alloc::Global;
 
 /// Reads both texts, the model's first, and answers by them.

@@ -5,7 +5,7 @@ use Rattle.std.specs.Fmt as fmt
 use Rattle.std.proofs.lemmas.Fmt.{decimal_by_steps_wide}
 use Rattle.std.proofs.lemmas.Bool.{cond-true, cond-false}
 use Rattle.std.proofs.lemmas.Bool.Decides.{nat_tests}
-use Rattle.block_tree.specs.Names.{begins_name, continues_name, is_digit}
+use Rattle.model_tree.specs.Names.{begins_name, continues_name, is_digit}
 use Rattle.gdp_grammar.specs.declared.class.Class.{Class}
 use Rattle.gdp_grammar.specs.declared.class.Class.TheVariants as class
 use Rattle.gdp_grammar.specs.declared.symbol.Symbol.TheVariants.{Plus, Minus, AtMost, AtLeast, Equal}

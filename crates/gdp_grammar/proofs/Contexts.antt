@@ -1,11 +1,11 @@
 -- What stands before and around a block whose lines are read again.
 use Rattle.std.proofs.Common.{◌≡◌, ◌+◌, ◌≤◌, true, List, [], ◌∷◌, ◌++◌, length, map, take, Option, Some, None, refl, arith}
-use Rattle.block_tree.specs.Building.{BuildingValue, OpenBlock, OpenDisjunction}
-use Rattle.block_tree.specs.Names.{are_names}
-use Rattle.block_tree.specs.Sound.{are_last_of}
-use Rattle.block_tree.specs.Tree.{DisjunctHead}
-use Rattle.block_tree.specs.Values.{GoalValue, ModelTree}
-use Rattle.block_tree.specs.Variables.{VarValue, BooleanValue}
+use Rattle.model_tree.specs.Building.{BuildingValue, OpenBlock, OpenDisjunction}
+use Rattle.model_tree.specs.Names.{are_names}
+use Rattle.model_tree.specs.Sound.{are_last_of}
+use Rattle.model_tree.specs.Tree.{DisjunctHead}
+use Rattle.model_tree.specs.Values.{GoalValue, ModelTree}
+use Rattle.model_tree.specs.Variables.{VarValue, BooleanValue}
 use Rattle.gdp_grammar.specs.Canonical.{var_names, boolean_names}
 
 -- What is declared before the blocks: the variables and the goal of a model whose names differ.

@@ -11,16 +11,16 @@ use Rattle.lp_rows.specs.declared.kinds.Sense.{Sense}
 use Rattle.lp_rows.specs.Holding.{ids_below}
 use Rattle.lp_rows.specs.declared.rows.RowError.{RowError}
 use Rattle.lp_rows.specs.Rows.{RowValue, is_storable, ascends_from, has_zero, are_storable, row_refusal}
-use Rattle.block_tree.specs.declared.errors.BuildError.{BuildError}
-use Rattle.block_tree.specs.declared.errors.BuildError.TheVariants.{Limit}
-use Rattle.block_tree.specs.Bounds.{is_bound}
-use Rattle.block_tree.specs.Building.{BuildingValue, is_at_root, is_taken, are_ids_below, refusal_of_terms, rows_so_far}
-use Rattle.block_tree.specs.Names.{is_name, are_names}
-use Rattle.block_tree.specs.Nesting.{goal_outcome, refusal_of_scale}
-use Rattle.block_tree.specs.Scaling.{divides_all, is_multiple}
-use Rattle.block_tree.specs.Values.{GoalValue}
-use Rattle.block_tree.specs.Variables.{VarValue}
-use Rattle.block_tree.proofs.Multiples.{divides}
+use Rattle.model_tree.specs.declared.errors.BuildError.{BuildError}
+use Rattle.model_tree.specs.declared.errors.BuildError.TheVariants.{Limit}
+use Rattle.model_tree.specs.Bounds.{is_bound}
+use Rattle.model_tree.specs.Building.{BuildingValue, is_at_root, is_taken, are_ids_below, refusal_of_terms, rows_so_far}
+use Rattle.model_tree.specs.Names.{is_name, are_names}
+use Rattle.model_tree.specs.Nesting.{goal_outcome, refusal_of_scale}
+use Rattle.model_tree.specs.Scaling.{divides_all, is_multiple}
+use Rattle.model_tree.specs.Values.{GoalValue}
+use Rattle.model_tree.specs.Variables.{VarValue}
+use Rattle.model_tree.proofs.Multiples.{divides}
 use Rattle.std.specs.Int.{◌∣◌, IsGcd}
 use Rattle.std.proofs.lemmas.Nat.Gcd.{le_of_dvd}
 use Rattle.std.proofs.Math.Nat.{one-dvd, pos_of_dvd_of_pos}

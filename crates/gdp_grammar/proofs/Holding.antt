@@ -3,10 +3,10 @@ use Rattle.std.proofs.Common.{◌≡◌, ℕ, zero, suc, ◌<◌, true, false, L
 use Rattle.std.proofs.lemmas.List.{append-nil}
 use Rattle.lp_rows.specs.Rows.{RowValue}
 use Rattle.propositions.specs.Tree.{PropTree}
-use Rattle.block_tree.specs.declared.tree.Mode.{Mode}
-use Rattle.block_tree.specs.Building.{OpenBlock, OpenDisjunction, empty_block, closed_block}
-use Rattle.block_tree.specs.Nesting.{closed_disjunct, closed_disjunction}
-use Rattle.block_tree.specs.View.{disjuncts, disjunctions}
+use Rattle.model_tree.specs.declared.tree.Mode.{Mode}
+use Rattle.model_tree.specs.Building.{OpenBlock, OpenDisjunction, empty_block, closed_block}
+use Rattle.model_tree.specs.Nesting.{closed_disjunct, closed_disjunction}
+use Rattle.model_tree.specs.View.{disjuncts, disjunctions}
 use Rattle.gdp_grammar.specs.Nested.{row_marks, prop_marks, disjunction_marks, disjunct_marks, IsBlockOf}
 use Rattle.gdp_grammar.specs.Stacks.{open_after, open_before, first_of, same_owner, owned}
 use Rattle.gdp_grammar.specs.Owners.{LineKind, RowLine, LogicLine, DisjunctionLine, DisjunctLine, EndLine, OtherLine, Kinds, is_row, is_logic, is_disjunction, is_disjunct, is_end, depth, IsNested}

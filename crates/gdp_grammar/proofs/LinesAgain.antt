@@ -10,10 +10,10 @@ use Rattle.lp_rows.specs.declared.kinds.Rel.{Rel}
 use Rattle.lp_rows.specs.declared.kinds.Rel.TheVariants as rel
 use Rattle.lp_rows.specs.declared.kinds.Sense.{Sense}
 use Rattle.lp_rows.specs.declared.kinds.Sense.TheVariants.{Min, Max}
-use Rattle.block_tree.specs.declared.tree.Mode.{Mode}
-use Rattle.block_tree.specs.declared.tree.Mode.TheVariants as mode
-use Rattle.block_tree.specs.Names.{begins_name, continues_name, is_name, has_name, has_name_shape, reserved_words}
-use Rattle.block_tree.specs.Variables.{VarValue, BooleanValue}
+use Rattle.model_tree.specs.declared.tree.Mode.{Mode}
+use Rattle.model_tree.specs.declared.tree.Mode.TheVariants as mode
+use Rattle.model_tree.specs.Names.{begins_name, continues_name, is_name, has_name, has_name_shape, reserved_words}
+use Rattle.model_tree.specs.Variables.{VarValue, BooleanValue}
 use Rattle.gdp_grammar.specs.declared.symbol.Symbol.TheVariants.{Plus, Minus, AtMost, AtLeast, Equal}
 use Rattle.gdp_grammar.specs.Canonical.{spaced, line_of, size_word, number_word, sign_word, end_word, kind_word, rel_word, mode_word, sense_word, var_line, boolean_line, name_in, further_terms, sum_words, constant_words, goal_words, disjunction_line}
 use Rattle.gdp_grammar.specs.Forms.{Form, Var, Boolean, Goal, Row, Disjunction, Disjunct, End, Signed, Summand, form_of, signed_of, low_of, low_after, high_of, summand_of, joint_of, summands_within, summands_of, sum_of, var_of, boolean_of, row_of, terms_goal_of, number_goal_of, constant_of, disjunction_of, disjunct_of, end_of, is_nought, word_next, goal_of}

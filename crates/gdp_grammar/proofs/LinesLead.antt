@@ -11,11 +11,11 @@ use Rattle.lp_rows.specs.declared.kinds.Rel.{Rel}
 use Rattle.lp_rows.specs.declared.kinds.Rel.TheVariants as rel
 use Rattle.lp_rows.specs.declared.kinds.Sense.{Sense}
 use Rattle.lp_rows.specs.declared.kinds.Sense.TheVariants.{Min, Max}
-use Rattle.block_tree.specs.declared.tree.Mode.{Mode}
-use Rattle.block_tree.specs.declared.tree.Mode.TheVariants as mode
-use Rattle.block_tree.specs.Building.{BuildingValue}
-use Rattle.block_tree.specs.Names.{begins_name, continues_name, is_digit, is_name, has_name, has_name_shape, reserved_words}
-use Rattle.block_tree.specs.Variables.{VarValue}
+use Rattle.model_tree.specs.declared.tree.Mode.{Mode}
+use Rattle.model_tree.specs.declared.tree.Mode.TheVariants as mode
+use Rattle.model_tree.specs.Building.{BuildingValue}
+use Rattle.model_tree.specs.Names.{begins_name, continues_name, is_digit, is_name, has_name, has_name_shape, reserved_words}
+use Rattle.model_tree.specs.Variables.{VarValue}
 use Rattle.gdp_grammar.specs.declared.cause.ReadCause.{ReadCause}
 use Rattle.gdp_grammar.specs.Canonical.{spaced, line_of, size_word, number_word, sign_word, end_word, kind_word, rel_word, sense_word, var_line, name_in, further_terms, sum_words, constant_words, goal_words, disjunction_line}
 use Rattle.gdp_grammar.specs.Causes.{◌>>=◌}

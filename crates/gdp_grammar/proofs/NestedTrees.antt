@@ -1,6 +1,6 @@
 -- A tree that is closed is nested as the lines are.
 use Rattle.std.proofs.Common.{ℕ, List, [], Option, Some, subst}
-use Rattle.block_tree.specs.Tree.{BlockTree, block, Disjunctions, no_disjunctions, disjunction, Disjuncts, no_disjuncts, disjunct}
+use Rattle.model_tree.specs.Tree.{BlockTree, block, Disjunctions, no_disjunctions, disjunction, Disjuncts, no_disjuncts, disjunct}
 use Rattle.gdp_grammar.specs.Nested.{AreOwned, Owns, row_marks, prop_marks, disjunction_marks, disjunct_marks, IsBlockOf, AreDisjunctionsOf, AreDisjunctsOf}
 use Rattle.gdp_grammar.specs.Owners.{Kinds, is_row, is_logic, is_disjunction, is_disjunct, IsNested}
 use Rattle.gdp_grammar.proofs.OwnedLines.{owned_found}

@@ -9,14 +9,14 @@ use Rattle.lp_rows.specs.declared.kinds.Kind.{Kind}
 use Rattle.lp_rows.specs.declared.kinds.Rel.{Rel}
 use Rattle.lp_rows.specs.declared.kinds.Sense.{Sense}
 use Rattle.lp_rows.specs.Rows.{RowValue}
-use Rattle.block_tree.specs.declared.bounds.Bound.{Bound}
-use Rattle.block_tree.specs.declared.errors.BuildError.{BuildError}
-use Rattle.block_tree.specs.declared.errors.BuildError.TheVariants as refusal
-use Rattle.block_tree.specs.Building.{BuildingValue, OpenBlock, OpenDisjunction, empty_block, is_at_root, is_taken, refusal_of_var, refusal_of_row, stored_row, built_model}
-use Rattle.block_tree.specs.Sound.{is_empty}
-use Rattle.block_tree.specs.Nesting.{refusal_of_boolean, refusal_of_goal, stored_goal, refusal_of_disjunct, with_disjunct, open_disjunct_in, closed_disjunct, closed_disjunction, close_disjunct, close_opened}
-use Rattle.block_tree.specs.Props.{refusal_of_prop}
-use Rattle.block_tree.specs.Values.{ModelTree}
+use Rattle.model_tree.specs.declared.bounds.Bound.{Bound}
+use Rattle.model_tree.specs.declared.errors.BuildError.{BuildError}
+use Rattle.model_tree.specs.declared.errors.BuildError.TheVariants as refusal
+use Rattle.model_tree.specs.Building.{BuildingValue, OpenBlock, OpenDisjunction, empty_block, is_at_root, is_taken, refusal_of_var, refusal_of_row, stored_row, built_model}
+use Rattle.model_tree.specs.Sound.{is_empty}
+use Rattle.model_tree.specs.Nesting.{refusal_of_boolean, refusal_of_goal, stored_goal, refusal_of_disjunct, with_disjunct, open_disjunct_in, closed_disjunct, closed_disjunction, close_disjunct, close_opened}
+use Rattle.model_tree.specs.Props.{refusal_of_prop}
+use Rattle.model_tree.specs.Values.{ModelTree}
 use Rattle.gdp_grammar.specs.declared.cause.ReadCause.{ReadCause}
 use Rattle.gdp_grammar.specs.declared.cause.ReadCause.TheVariants as cause
 use Rattle.gdp_grammar.specs.declared.class.Class.TheVariants as class

@@ -1,6 +1,6 @@
 -- A text spells at most one model, or has one first bad line, and never both.
 use Rattle.std.proofs.Common.{◌≡◌, ℕ, Result, Ok, Err, refl, ap, sym, ◌∙◌, ◌⊎◌, inl, inr}
-use Rattle.block_tree.specs.Values.{ModelTree}
+use Rattle.model_tree.specs.Values.{ModelTree}
 use Rattle.gdp_grammar.specs.declared.cause.ReadCause.{ReadCause}
 use Rattle.gdp_grammar.specs.Following.{text_gives}
 use Rattle.gdp_grammar.specs.Laws.{OneModel, SpelledOrBad, NeverBoth, OneFirstBad}

@@ -5,8 +5,8 @@ use Rattle.std.proofs.lemmas.Bool.Decides.{nat_tests}
 use Rattle.std.proofs.lemmas.List.{append-nil}
 use Rattle.lp_rows.specs.Rows.{RowValue}
 use Rattle.propositions.specs.Tree.{PropTree}
-use Rattle.block_tree.specs.Tree.{BlockTree, block, Disjunctions, no_disjunctions, disjunction, Disjuncts, no_disjuncts, disjunct}
-use Rattle.block_tree.specs.View.{DisjunctTree, DisjunctionTree, disjuncts, disjunctions}
+use Rattle.model_tree.specs.Tree.{BlockTree, block, Disjunctions, no_disjunctions, disjunction, Disjuncts, no_disjuncts, disjunct}
+use Rattle.model_tree.specs.View.{DisjunctTree, DisjunctionTree, disjuncts, disjunctions}
 use Rattle.gdp_grammar.specs.Nested.{row_marks, prop_marks, disjunction_marks, disjunct_marks}
 use Rattle.gdp_grammar.specs.Stacks.{open_after, open_before, first_of, owner, same_owner, owned}
 use Rattle.gdp_grammar.specs.Owners.{LineKind, RowLine, LogicLine, DisjunctionLine, DisjunctLine, EndLine, OtherLine, Kinds, is_row, is_logic, is_disjunction, is_disjunct}

@@ -1,11 +1,11 @@
 -- Texts and lines, part by part.
 use Rattle.std.proofs.Common.{◌≡◌, ℕ, ◌+◌, List, [], ◌∷◌, ◌++◌, length, get_or, drop, map, drop-cons, add-one, append_assoc, suc, refl, ap, sym, ◌∙◌, ◌<◌, codes}
-use Rattle.block_tree.specs.declared.tree.Disjunct.{Disjunct}
-use Rattle.block_tree.specs.declared.tree.Disjunction.{Disjunction}
-use Rattle.block_tree.specs.Tree.{DisjunctHead, BlockTree, block, below, below_disjunctions, below_disjuncts}
+use Rattle.model_tree.specs.declared.tree.Disjunct.{Disjunct}
+use Rattle.model_tree.specs.declared.tree.Disjunction.{Disjunction}
+use Rattle.model_tree.specs.Tree.{DisjunctHead, BlockTree, block, below, below_disjunctions, below_disjuncts}
 use Rattle.std.proofs.lemmas.List.{map-append}
-use Rattle.block_tree.specs.Values.{ModelTree}
-use Rattle.block_tree.specs.View.{disjuncts_of, disjunctions_of, disjunct_of, disjunction_of, rows_in, props_in, disjunctions_in}
+use Rattle.model_tree.specs.Values.{ModelTree}
+use Rattle.model_tree.specs.View.{disjuncts_of, disjunctions_of, disjunct_of, disjunction_of, rows_in, props_in, disjunctions_in}
 use Rattle.gdp_grammar.specs.Canonical.{spaced, text_of, disjunctions_lines, disjuncts_lines, lines_of_disjunction, lines_of_disjunct, disjunction_line, disjunct_line, block_lines, numbers_of, row_line, logic_line, var_line, boolean_line, free_booleans, goal_line, canonical_lines}
 
 pub text_appended : (xs ys : List (List ℕ)) → text_of (xs ++ ys) ≡ text_of xs ++ text_of ys

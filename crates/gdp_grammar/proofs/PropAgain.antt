@@ -7,8 +7,8 @@ use Rattle.propositions.specs.Sizes.{number_of, greatest_number_of, greatest_num
 use Rattle.propositions.specs.Tree.{implies, equivalent, xor, ListConnective, all_of, some_of, PropTree, atom, negated, paired, listed, PropTrees, no_props, prop}
 use Rattle.propositions.specs.Tree as tree
 use Rattle.propositions.specs.Truth.{are_ids_below, are_all_ids_below}
-use Rattle.block_tree.specs.Names.{begins_name, continues_name, is_digit, is_name, has_name, has_name_shape, reserved_words}
-use Rattle.block_tree.specs.Variables.{BooleanValue}
+use Rattle.model_tree.specs.Names.{begins_name, continues_name, is_digit, is_name, has_name, has_name_shape, reserved_words}
+use Rattle.model_tree.specs.Variables.{BooleanValue}
 use Rattle.gdp_grammar.specs.declared.class.Class.TheVariants as class
 use Rattle.gdp_grammar.specs.declared.symbol.Symbol.TheVariants.{Open, Close, Comma}
 use Rattle.gdp_grammar.specs.Canonical.{line_of}

@@ -6,8 +6,8 @@ use Rattle.std.proofs.lemmas.List.{get_or-take, length-map}
 use Rattle.propositions.specs.Sizes.{number_of, greatest_number_of, greatest_number_within, is_empty, has_empty_list_of, has_empty_list_within}
 use Rattle.propositions.specs.Tree.{ListConnective, all_of, some_of, exactly, at_least, at_most, PropTree, atom, negated, paired, listed, PropTrees, no_props, prop}
 use Rattle.propositions.specs.Truth.{are_ids_below, are_all_ids_below}
-use Rattle.block_tree.specs.Names.{is_name, has_name, has_name_shape, reserved_words, are_names}
-use Rattle.block_tree.specs.Variables.{BooleanValue}
+use Rattle.model_tree.specs.Names.{is_name, has_name, has_name_shape, reserved_words, are_names}
+use Rattle.model_tree.specs.Variables.{BooleanValue}
 use Rattle.gdp_grammar.specs.Keywords.{is_reserved}
 use Rattle.gdp_grammar.specs.PropNames.{boolean_number, are_known, are_all_known, combined, tree_in, trees_in, list_operator, named_in, all_named_in}
 use Rattle.gdp_grammar.specs.PropTexts.{argument_count, takes, is_formed, are_formed}

@@ -7,7 +7,7 @@ use Rattle.std.proofs.lemmas.List.{length-map}
 use Rattle.propositions.specs.Sizes.{depth_of, depth_within, node_count_of, node_count_within, prop_count, most_arguments_of, most_arguments_within, number_of, greatest_number_of, greatest_number_within, has_empty_list_of, has_empty_list_within}
 use Rattle.propositions.specs.Tree.{PairConnective, ListConnective, all_of, some_of, PropTree, negated, paired, listed, PropTrees, no_props, prop}
 use Rattle.propositions.specs.Truth.{are_ids_below, are_all_ids_below}
-use Rattle.block_tree.specs.Variables.{BooleanValue}
+use Rattle.model_tree.specs.Variables.{BooleanValue}
 use Rattle.gdp_grammar.specs.Numerals.{decimal}
 use Rattle.gdp_grammar.specs.PropNames.{boolean_number, are_known, are_all_known, counting_connective, combined, tree_in, trees_in}
 use Rattle.gdp_grammar.specs.PropSizes.{named_depth, named_depth_within, named_nodes, named_nodes_within, named_most, named_most_within, number_in, named_greatest, named_greatest_within}

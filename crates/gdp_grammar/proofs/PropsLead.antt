@@ -6,15 +6,15 @@ use Rattle.std.proofs.lemmas.Bool.Decides.{nat_tests}
 use Rattle.propositions.specs.Sizes.{node_count_of, most_arguments_of, greatest_number_of, has_empty_list_of}
 use Rattle.propositions.specs.Tree.{PropTree}
 use Rattle.propositions.specs.Truth.{are_ids_below}
-use Rattle.block_tree.specs.Building.{BuildingValue, OpenBlock, OpenDisjunction}
-use Rattle.block_tree.specs.Earlier.{name_only_first}
-use Rattle.block_tree.specs.Names.{has_name, is_name, are_names}
-use Rattle.block_tree.specs.PropLimits.{has_small_numbers, is_shallow_prop, has_fair_lists, is_prop_sound}
-use Rattle.block_tree.specs.Props.{nodes_so_far, refusal_of_prop}
-use Rattle.block_tree.specs.Sound.{are_props_sound}
-use Rattle.block_tree.specs.Tree.{nodes_of_props}
-use Rattle.block_tree.specs.Values.{GoalValue, ModelTree}
-use Rattle.block_tree.specs.Variables.{VarValue, BooleanValue}
+use Rattle.model_tree.specs.Building.{BuildingValue, OpenBlock, OpenDisjunction}
+use Rattle.model_tree.specs.Earlier.{name_only_first}
+use Rattle.model_tree.specs.Names.{has_name, is_name, are_names}
+use Rattle.model_tree.specs.PropLimits.{has_small_numbers, is_shallow_prop, has_fair_lists, is_prop_sound}
+use Rattle.model_tree.specs.Props.{nodes_so_far, refusal_of_prop}
+use Rattle.model_tree.specs.Sound.{are_props_sound}
+use Rattle.model_tree.specs.Tree.{nodes_of_props}
+use Rattle.model_tree.specs.Values.{GoalValue, ModelTree}
+use Rattle.model_tree.specs.Variables.{VarValue, BooleanValue}
 use Rattle.gdp_grammar.specs.Canonical.{var_names, boolean_names, logic_line}
 use Rattle.gdp_grammar.specs.CanonicalLaws.{unmarked_props}
 use Rattle.gdp_grammar.specs.Forms.{Logic, form_of}

@@ -11,8 +11,8 @@ use Rattle.std.proofs.lemmas.Int.{ints}
 use Rattle.fractions.specs.Fraction as fraction
 use Rattle.fractions.specs.Fraction.{IsLowest, IsReduced}
 use Rattle.lp_rows.specs.Rows.{ascends_from}
-use Rattle.block_tree.specs.Names.{has_name, is_name, are_names}
-use Rattle.block_tree.specs.Variables.{VarValue}
+use Rattle.model_tree.specs.Names.{has_name, is_name, are_names}
+use Rattle.model_tree.specs.Variables.{VarValue}
 use Rattle.gdp_grammar.specs.Canonical.{name_in}
 use Rattle.gdp_grammar.specs.Forms.{Summand}
 use Rattle.gdp_grammar.specs.Lowest.{over}

@@ -9,20 +9,20 @@ use Rattle.fractions.specs.Fraction as fraction
 use Rattle.lp_rows.specs.declared.kinds.Rel.TheVariants.{Equal}
 use Rattle.lp_rows.specs.Holding.{ids_below}
 use Rattle.lp_rows.specs.Rows.{row_refusal, is_storable}
-use Rattle.block_tree.proofs.Keeping as keeping
-use Rattle.block_tree.specs.declared.bounds.Bound.{Bound}
-use Rattle.block_tree.specs.Earlier.{names_earlier}
-use Rattle.block_tree.specs.Bounds.{is_bound, is_end_small, are_crossed, IsEndLowest, AreEndsLowest, are_bounds}
-use Rattle.block_tree.specs.Building.{BuildingValue, empty_block, new_building, is_taken, built_model}
-use Rattle.block_tree.specs.Sound.{is_empty, IsSound, is_goal_sound, IsScaleLeast, are_last_of}
-use Rattle.block_tree.specs.Names.{has_name, is_name, are_names}
-use Rattle.block_tree.specs.Tree.{DisjunctHead, below, block}
-use Rattle.block_tree.specs.Values.{GoalValue, ModelTree}
-use Rattle.block_tree.specs.Variables.{VarValue, BooleanValue}
-use Rattle.block_tree.specs.View.{disjunctions}
+use Rattle.model_tree.proofs.Keeping as keeping
+use Rattle.model_tree.specs.declared.bounds.Bound.{Bound}
+use Rattle.model_tree.specs.Earlier.{names_earlier}
+use Rattle.model_tree.specs.Bounds.{is_bound, is_end_small, are_crossed, IsEndLowest, AreEndsLowest, are_bounds}
+use Rattle.model_tree.specs.Building.{BuildingValue, empty_block, new_building, is_taken, built_model}
+use Rattle.model_tree.specs.Sound.{is_empty, IsSound, is_goal_sound, IsScaleLeast, are_last_of}
+use Rattle.model_tree.specs.Names.{has_name, is_name, are_names}
+use Rattle.model_tree.specs.Tree.{DisjunctHead, below, block}
+use Rattle.model_tree.specs.Values.{GoalValue, ModelTree}
+use Rattle.model_tree.specs.Variables.{VarValue, BooleanValue}
+use Rattle.model_tree.specs.View.{disjunctions}
 use Rattle.gdp_grammar.specs.Canonical.{text_of, line_of, sense_word, goal_words, var_names, boolean_names, terms_over, var_line, boolean_line, goal_line, block_lines, numbers_of, free_from, free_booleans, canonical_lines, canonical_text}
 use Rattle.gdp_grammar.specs.CanonicalLaws.{unmarked_vars, unmarked_booleans, unmarked_goal, unmarked_block, AreSame, CanonicalSpells, CanonicalAgain}
-use Rattle.block_tree.specs.Sound.{is_stored}
+use Rattle.model_tree.specs.Sound.{is_stored}
 use Rattle.gdp_grammar.specs.Forms.{Var, Boolean}
 use Rattle.gdp_grammar.specs.Lines.{lines_of}
 use Rattle.gdp_grammar.specs.Lowest.{over}

@@ -7,19 +7,19 @@ use Rattle.std.proofs.lemmas.List.{map-append}
 use Rattle.lp_rows.specs.Holding.{ids_below}
 use Rattle.lp_rows.specs.Rows.{RowValue, row_refusal}
 use Rattle.propositions.specs.Tree.{PropTree}
-use Rattle.block_tree.specs.Earlier.{declared_by_end, name_only_first, names_earlier, disjunctions_name_earlier, disjuncts_name_earlier}
-use Rattle.block_tree.specs.Props.{nodes_so_far}
-use Rattle.block_tree.specs.Building.{BuildingValue, OpenBlock, OpenDisjunction, empty_block, rows_so_far, closed_block}
-use Rattle.block_tree.specs.Sound.{is_empty, are_rows_below, are_props_sound, is_filled, is_block_sound, are_disjunctions_sound, are_disjuncts_sound, is_shallow, are_disjunctions_shallow, are_disjuncts_shallow, are_last_of}
-use Rattle.block_tree.specs.Names.{has_name, is_name, are_names}
-use Rattle.block_tree.specs.Nesting.{closed_disjunct, closed_disjunction}
-use Rattle.block_tree.specs.Tree.{DisjunctHead, DisjunctionHead, BlockTree, block, Disjunctions, no_disjunctions, disjunction, Disjuncts, no_disjuncts, disjunct, row_count, row_count_below, row_count_within, nodes_of_props, node_total, node_total_below, node_total_within, below, below_disjunctions, below_disjuncts}
-use Rattle.block_tree.specs.Values.{GoalValue, ModelTree}
-use Rattle.block_tree.specs.Variables.{VarValue, BooleanValue}
-use Rattle.block_tree.specs.View.{DisjunctTree, DisjunctionTree, disjuncts, disjunctions}
+use Rattle.model_tree.specs.Earlier.{declared_by_end, name_only_first, names_earlier, disjunctions_name_earlier, disjuncts_name_earlier}
+use Rattle.model_tree.specs.Props.{nodes_so_far}
+use Rattle.model_tree.specs.Building.{BuildingValue, OpenBlock, OpenDisjunction, empty_block, rows_so_far, closed_block}
+use Rattle.model_tree.specs.Sound.{is_empty, are_rows_below, are_props_sound, is_filled, is_block_sound, are_disjunctions_sound, are_disjuncts_sound, is_shallow, are_disjunctions_shallow, are_disjuncts_shallow, are_last_of}
+use Rattle.model_tree.specs.Names.{has_name, is_name, are_names}
+use Rattle.model_tree.specs.Nesting.{closed_disjunct, closed_disjunction}
+use Rattle.model_tree.specs.Tree.{DisjunctHead, DisjunctionHead, BlockTree, block, Disjunctions, no_disjunctions, disjunction, Disjuncts, no_disjuncts, disjunct, row_count, row_count_below, row_count_within, nodes_of_props, node_total, node_total_below, node_total_within, below, below_disjunctions, below_disjuncts}
+use Rattle.model_tree.specs.Values.{GoalValue, ModelTree}
+use Rattle.model_tree.specs.Variables.{VarValue, BooleanValue}
+use Rattle.model_tree.specs.View.{DisjunctTree, DisjunctionTree, disjuncts, disjunctions}
 use Rattle.gdp_grammar.specs.Canonical.{var_names, boolean_names, name_in, terms_over, row_line, logic_line, disjunction_line, disjunct_line, block_lines, disjunctions_lines, disjuncts_lines}
 use Rattle.gdp_grammar.specs.CanonicalLaws.{unmarked_rows, unmarked_props, unmarked_block, unmarked_disjunctions, unmarked_disjuncts}
-use Rattle.block_tree.specs.Sound.{are_rows_stored, is_stored, are_disjunctions_stored, are_disjuncts_stored}
+use Rattle.model_tree.specs.Sound.{are_rows_stored, is_stored, are_disjunctions_stored, are_disjuncts_stored}
 use Rattle.gdp_grammar.specs.Forms.{Row, Disjunction, Disjunct, End}
 use Rattle.gdp_grammar.specs.Lowest.{over}
 use Rattle.gdp_grammar.specs.Reading.{with_form, with_line}
@@ -31,7 +31,7 @@ use Rattle.gdp_grammar.proofs.LinesAgain.{row_form_again, disjunction_form_again
 use Rattle.gdp_grammar.proofs.LinesLead.{headed, line_lead, leads_then, leads_to, row_printed, disjunction_printed, named_printed, words_appended}
 use Rattle.gdp_grammar.proofs.PropsLead.{props_at, props_at_same, props_lead, props_printed}
 use Rattle.gdp_grammar.proofs.Rebuilt.{fit_short, terms_read, bytes_eq_swap}
-use Rattle.block_tree.proofs.Keeping.{has_append}
+use Rattle.model_tree.proofs.Keeping.{has_append}
 use Rattle.std.specs.Str.{bytes_eq}
 
 -- rows that follow one another

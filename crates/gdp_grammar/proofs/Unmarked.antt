@@ -4,9 +4,9 @@ use Rattle.std.specs.List.{list_any}
 use Rattle.std.proofs.lemmas.List.{map-append}
 use Rattle.lp_rows.specs.Rows.{RowValue}
 use Rattle.propositions.specs.Tree.{PropTree}
-use Rattle.block_tree.specs.Tree.{DisjunctHead, BlockTree, block, Disjunctions, no_disjunctions, disjunction, Disjuncts, no_disjuncts, disjunct, below, below_disjunctions, below_disjuncts}
-use Rattle.block_tree.specs.Values.{ModelTree}
-use Rattle.block_tree.specs.Variables.{VarValue, BooleanValue}
+use Rattle.model_tree.specs.Tree.{DisjunctHead, BlockTree, block, Disjunctions, no_disjunctions, disjunction, Disjuncts, no_disjuncts, disjunct, below, below_disjunctions, below_disjuncts}
+use Rattle.model_tree.specs.Values.{ModelTree}
+use Rattle.model_tree.specs.Variables.{VarValue, BooleanValue}
 use Rattle.gdp_grammar.specs.Canonical.{text_of, var_names, boolean_names, row_line, logic_line, var_line, boolean_line, goal_line, disjunction_line, disjunct_line, block_lines, disjunctions_lines, disjuncts_lines, numbers_of, indicators, free_from, free_booleans, canonical_lines, canonical_text}
 use Rattle.gdp_grammar.specs.CanonicalLaws.{unmarked_rows, unmarked_props, unmarked_block, unmarked_disjunctions, unmarked_disjuncts, unmarked_vars, unmarked_booleans, unmarked, CanonicalIgnoresMarks}
 

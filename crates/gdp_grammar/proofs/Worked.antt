@@ -1,7 +1,7 @@
 -- The worked texts, computed.
 use Rattle.std.proofs.Common.{◌≡◌, [], Ok, Err, refl}
-use Rattle.block_tree.specs.Names.{reserved_words, is_name}
-use Rattle.block_tree.specs.Scaling.{least_multiple_from, product_of, least_scale}
+use Rattle.model_tree.specs.Names.{reserved_words, is_name}
+use Rattle.model_tree.specs.Scaling.{least_multiple_from, product_of, least_scale}
 use Rattle.gdp_grammar.specs.declared.cause.ReadCause.TheVariants as cause
 use Rattle.gdp_grammar.specs.Following.{text_gives}
 use Rattle.gdp_grammar.specs.Forms.{signed_of, low_after, high_of, summand_of, summands_of, sum_of, constant_of, var_of, boolean_of, number_goal_of, terms_goal_of, row_of, disjunction_of, disjunct_of, end_of}

@@ -1,6 +1,6 @@
 -- The worked point texts and owners, computed.
 use Rattle.std.proofs.Common.{◌≡◌, pos, negsuc, true, false, [], ◌∷◌, None, Some, Ok, Err, refl}
-use Rattle.block_tree.specs.Names.{reserved_words}
+use Rattle.model_tree.specs.Names.{reserved_words}
 use Rattle.gdp_grammar.specs.declared.cause.ReadCause.TheVariants as cause
 use Rattle.gdp_grammar.specs.Forms.{signed_of, low_after, high_of, summand_of, summands_of, sum_of, constant_of, var_of, boolean_of, number_goal_of, terms_goal_of, row_of, disjunction_of, disjunct_of, end_of}
 use Rattle.gdp_grammar.specs.LineGrammars.{given_by}

@@ -11,12 +11,12 @@ use Rattle.lp_rows.specs.declared.kinds.Sense.{Sense}
 use Rattle.lp_rows.specs.declared.kinds.Sense.TheVariants.{Min, Max}
 use Rattle.lp_rows.specs.Rows.{RowValue}
 use Rattle.propositions.specs.Tree.{PropTree}
-use Rattle.block_tree.specs.declared.tree.Mode.{Mode}
-use Rattle.block_tree.specs.declared.tree.Mode.TheVariants.{Xor, Or}
-use Rattle.block_tree.specs.Tree.{DisjunctHead, BlockTree, block, Disjunctions, no_disjunctions, disjunction, Disjuncts, no_disjuncts, disjunct, below}
-use Rattle.block_tree.specs.Values.{ModelTree}
-use Rattle.block_tree.specs.Variables.{VarValue, BooleanValue}
-use Rattle.block_tree.specs.View.{DisjunctTree, DisjunctionTree}
+use Rattle.model_tree.specs.declared.tree.Mode.{Mode}
+use Rattle.model_tree.specs.declared.tree.Mode.TheVariants.{Xor, Or}
+use Rattle.model_tree.specs.Tree.{DisjunctHead, BlockTree, block, Disjunctions, no_disjunctions, disjunction, Disjuncts, no_disjuncts, disjunct, below}
+use Rattle.model_tree.specs.Values.{ModelTree}
+use Rattle.model_tree.specs.Variables.{VarValue, BooleanValue}
+use Rattle.model_tree.specs.View.{DisjunctTree, DisjunctionTree}
 use Rattle.gdp_grammar.specs.Lowest.{over}
 use Rattle.gdp_grammar.specs.PropNames.{named_in, prop_text}
 

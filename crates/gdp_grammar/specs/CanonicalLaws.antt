@@ -2,10 +2,10 @@
 use Rattle.std.specs.Prelude.{◌≡◌, ℕ, true, List, map}
 use Rattle.lp_rows.specs.Rows.{RowValue}
 use Rattle.propositions.specs.Tree.{PropTree}
-use Rattle.block_tree.specs.Sound.{IsSound, is_stored}
-use Rattle.block_tree.specs.Tree.{BlockTree, block, Disjunctions, no_disjunctions, disjunction, Disjuncts, no_disjuncts, disjunct}
-use Rattle.block_tree.specs.Values.{GoalValue, ModelTree}
-use Rattle.block_tree.specs.Variables.{VarValue, BooleanValue}
+use Rattle.model_tree.specs.Sound.{IsSound, is_stored}
+use Rattle.model_tree.specs.Tree.{BlockTree, block, Disjunctions, no_disjunctions, disjunction, Disjuncts, no_disjuncts, disjunct}
+use Rattle.model_tree.specs.Values.{GoalValue, ModelTree}
+use Rattle.model_tree.specs.Variables.{VarValue, BooleanValue}
 use Rattle.gdp_grammar.specs.Canonical.{canonical_text}
 use Rattle.gdp_grammar.specs.CanonicalWorked as worked
 use Rattle.gdp_grammar.specs.Spelling.{Spells}

@@ -7,9 +7,9 @@ use Rattle.lp_rows.specs.declared.kinds.Rel.TheVariants.{AtMost, AtLeast, Equal}
 use Rattle.lp_rows.specs.declared.kinds.Sense.TheVariants.{Min, Max}
 use Rattle.lp_rows.specs.Rows.{RowValue}
 use Rattle.propositions.specs.Tree.{implies, some_of, exactly, atom, paired, listed, no_props, prop}
-use Rattle.block_tree.specs.declared.tree.Mode.TheVariants.{Xor, Or}
-use Rattle.block_tree.specs.Tree.{BlockTree, block, no_disjunctions, disjunction, no_disjuncts, disjunct}
-use Rattle.block_tree.specs.Values.{ModelTree}
+use Rattle.model_tree.specs.declared.tree.Mode.TheVariants.{Xor, Or}
+use Rattle.model_tree.specs.Tree.{BlockTree, block, no_disjunctions, disjunction, no_disjuncts, disjunct}
+use Rattle.model_tree.specs.Values.{ModelTree}
 use Rattle.gdp_grammar.specs.Canonical.{text_of}
 
 abbrev pub fraction : ℤ → ℤ → Option Fraction

@@ -1,6 +1,6 @@
 -- Classes of bytes, and the front of a text that belongs to a class.
 use Rattle.std.specs.Prelude.{ℕ, Bool, not, ◌||◌, ◌==◌, List, [], ◌∷◌, if◌then◌else◌}
-use Rattle.block_tree.specs.Names.{begins_name, continues_name, is_digit}
+use Rattle.model_tree.specs.Names.{begins_name, continues_name, is_digit}
 use Rattle.gdp_grammar.specs.declared.class.Class.{Class}
 use Rattle.gdp_grammar.specs.declared.class.Class.TheVariants as class
 

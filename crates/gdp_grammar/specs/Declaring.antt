@@ -1,8 +1,8 @@
 -- What the lines of a text declare, each for itself.
 use Rattle.std.specs.Prelude.{◌≡◌, ℕ, ◌+◌, Bool, not, List, [], ◌∷◌, ◌++◌, Option, None, Some, Result, Ok}
 use Rattle.fractions.specs.Fraction.{Fraction}
-use Rattle.block_tree.specs.Values.{GoalValue, no_goal}
-use Rattle.block_tree.specs.Variables.{VarValue, BooleanValue}
+use Rattle.model_tree.specs.Values.{GoalValue, no_goal}
+use Rattle.model_tree.specs.Variables.{VarValue, BooleanValue}
 use Rattle.gdp_grammar.specs.declared.cause.ReadCause.{ReadCause}
 use Rattle.gdp_grammar.specs.Forms.{Form, Var, Boolean, Goal, Disjunct, Signed, form_of}
 use Rattle.gdp_grammar.specs.Lines.{without_comment}

@@ -7,8 +7,8 @@ use Rattle.lp_rows.specs.declared.kinds.Rel.{Rel}
 use Rattle.lp_rows.specs.declared.kinds.Rel.TheVariants as rel
 use Rattle.lp_rows.specs.declared.kinds.Sense.{Sense}
 use Rattle.lp_rows.specs.declared.kinds.Sense.TheVariants.{Min, Max}
-use Rattle.block_tree.specs.declared.tree.Mode.{Mode}
-use Rattle.block_tree.specs.declared.tree.Mode.TheVariants as mode
+use Rattle.model_tree.specs.declared.tree.Mode.{Mode}
+use Rattle.model_tree.specs.declared.tree.Mode.TheVariants as mode
 use Rattle.gdp_grammar.specs.declared.cause.ReadCause.{ReadCause}
 use Rattle.gdp_grammar.specs.declared.cause.ReadCause.TheVariants as cause
 use Rattle.gdp_grammar.specs.declared.symbol.Symbol.TheVariants.{Plus, Minus, AtMost, AtLeast, Equal}

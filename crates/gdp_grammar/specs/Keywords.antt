@@ -1,6 +1,6 @@
 -- The words that are no names.
 use Rattle.std.specs.Prelude.{ℕ, Bool, List}
-use Rattle.block_tree.specs.Names.{has_name, reserved_words}
+use Rattle.model_tree.specs.Names.{has_name, reserved_words}
 
 -- a word that is no name
 abbrev pub is_reserved : List ℕ → Bool

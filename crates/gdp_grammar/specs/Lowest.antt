@@ -1,7 +1,7 @@
 -- Quotients of whole numbers in lowest terms.
 use Rattle.std.specs.Prelude.{ℕ, zero, suc, ◌/◌, ℤ, pos, negsuc, neg_ℤ, ◌&&◌, unsigned_abs, if◌then◌else◌}
 use Rattle.fractions.specs.Fraction.{Fraction}
-use Rattle.block_tree.specs.Scaling.{is_multiple}
+use Rattle.model_tree.specs.Scaling.{is_multiple}
 
 -- the greatest of 1, .., k that divides both numbers
 unfoldable pub greatest_divisor : ℕ → ℕ → ℕ → ℕ

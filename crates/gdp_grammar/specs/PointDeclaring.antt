@@ -1,7 +1,7 @@
 -- What the lines of a point text say of the point, each for itself.
 use Rattle.std.specs.Prelude.{◌≡◌, ◌<◌, ◌⊎◌, ℕ, pos, Bool, true, false, List, [], ◌∷◌, ◌++◌, length, get_or, Some, Result, Ok}
 use Rattle.lp_rows.specs.Points.{PointValue}
-use Rattle.block_tree.specs.Values.{ModelTree}
+use Rattle.model_tree.specs.Values.{ModelTree}
 use Rattle.gdp_grammar.specs.declared.cause.ReadCause.{ReadCause}
 use Rattle.gdp_grammar.specs.Lines.{lines_of, without_comment}
 use Rattle.gdp_grammar.specs.PointForms.{Integer, PointForm, Over, Val, On, point_form_of}

@@ -1,7 +1,7 @@
 -- Laws of point texts. Each is the contract of a function of `point_laws`.
 use Rattle.std.specs.Prelude.{◌≡◌, ◌⊎◌, ℕ, Bool, List}
 use Rattle.lp_rows.specs.Points.{PointValue}
-use Rattle.block_tree.specs.Values.{ModelTree}
+use Rattle.model_tree.specs.Values.{ModelTree}
 use Rattle.gdp_grammar.specs.declared.cause.ReadCause.{ReadCause}
 use Rattle.gdp_grammar.specs.Points.{SpellsPoint, IsFirstBadOfPoint}
 

@@ -3,7 +3,7 @@ use Rattle.std.specs.Prelude.{ℕ, ℤ, pos, neg_ℤ, Bool, true, false, not, �
 use Rattle.std.specs.List.{list_all}
 use Rattle.fractions.specs.Width.{fits}
 use Rattle.lp_rows.specs.Points.{PointValue}
-use Rattle.block_tree.specs.Values.{ModelTree}
+use Rattle.model_tree.specs.Values.{ModelTree}
 use Rattle.gdp_grammar.specs.declared.cause.ReadCause.{ReadCause}
 use Rattle.gdp_grammar.specs.declared.cause.ReadCause.TheVariants as cause
 use Rattle.gdp_grammar.specs.Causes.{◌>>=◌, refuse_if}

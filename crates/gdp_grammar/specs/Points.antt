@@ -1,7 +1,7 @@
 -- When a text spells a point of a model, and where it first goes wrong.
 use Rattle.std.specs.Prelude.{ℕ, Bool, List}
 use Rattle.lp_rows.specs.Points.{PointValue}
-use Rattle.block_tree.specs.Values.{ModelTree}
+use Rattle.model_tree.specs.Values.{ModelTree}
 use Rattle.gdp_grammar.specs.declared.cause.ReadCause.{ReadCause}
 use Rattle.gdp_grammar.specs.LineGrammars.{LineGrammar, SpellsBy, IsFirstBadBy}
 use Rattle.gdp_grammar.specs.PointReading.{PointTaken, no_point_taken, with_point_line, point_after}

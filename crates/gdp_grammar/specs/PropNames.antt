@@ -3,7 +3,7 @@ use Rattle.std.specs.Prelude.{ℕ, Bool, true, ◌&&◌, List, [], ◌++◌, map
 use Rattle.std.specs.Fmt.{decimal}
 use Rattle.propositions.specs.Tree.{ListConnective, all_of, some_of, PropTree, atom, negated, paired, listed, PropTrees, no_props, prop}
 use Rattle.propositions.specs.Tree as tree
-use Rattle.block_tree.specs.Variables.{BooleanValue}
+use Rattle.model_tree.specs.Variables.{BooleanValue}
 use Rattle.gdp_grammar.specs.Numerals as numeral
 use Rattle.gdp_grammar.specs.PropTexts.{Counting, exactly, at_least, at_most, Operator, negation, pair, all, some, counted, NamedProp, named, applied, NamedProps, no_arguments, argument, pair_word, counting_word}
 

@@ -4,13 +4,13 @@ use Rattle.fractions.specs.Fraction.{Fraction}
 use Rattle.lp_rows.specs.declared.kinds.Kind.{Kind}
 use Rattle.lp_rows.specs.declared.kinds.Rel.{Rel}
 use Rattle.lp_rows.specs.declared.kinds.Sense.{Sense}
-use Rattle.block_tree.specs.declared.errors.BuildError.{BuildError}
-use Rattle.block_tree.specs.declared.errors.BuildError.TheVariants as refusal
-use Rattle.block_tree.specs.Building.{BuildingValue, new_building, is_at_root, is_taken, var_outcome, row_outcome, finish_outcome}
-use Rattle.block_tree.specs.Nesting.{boolean_outcome, goal_outcome, open_disjunction_outcome, open_disjunct_outcome, close_outcome}
-use Rattle.block_tree.specs.Props.{prop_outcome}
-use Rattle.block_tree.specs.Values.{ModelTree}
-use Rattle.block_tree.specs.Variables.{VarValue}
+use Rattle.model_tree.specs.declared.errors.BuildError.{BuildError}
+use Rattle.model_tree.specs.declared.errors.BuildError.TheVariants as refusal
+use Rattle.model_tree.specs.Building.{BuildingValue, new_building, is_at_root, is_taken, var_outcome, row_outcome, finish_outcome}
+use Rattle.model_tree.specs.Nesting.{boolean_outcome, goal_outcome, open_disjunction_outcome, open_disjunct_outcome, close_outcome}
+use Rattle.model_tree.specs.Props.{prop_outcome}
+use Rattle.model_tree.specs.Values.{ModelTree}
+use Rattle.model_tree.specs.Variables.{VarValue}
 use Rattle.gdp_grammar.specs.declared.cause.ReadCause.{ReadCause}
 use Rattle.gdp_grammar.specs.declared.cause.ReadCause.TheVariants as cause
 use Rattle.gdp_grammar.specs.Causes.{◌>>=◌, refuse_if}

@@ -4,9 +4,9 @@ use Rattle.lp_rows.specs.declared.kinds.Kind.TheVariants.{Real, Int}
 use Rattle.lp_rows.specs.declared.kinds.Rel.TheVariants.{AtMost, AtLeast}
 use Rattle.lp_rows.specs.declared.kinds.Sense.TheVariants.{Min}
 use Rattle.propositions.specs.Tree.{at_least, atom, negated, listed, no_props, prop}
-use Rattle.block_tree.specs.declared.tree.Mode.TheVariants.{Xor}
-use Rattle.block_tree.specs.Tree.{block, no_disjunctions, disjunction, disjunct, no_disjuncts}
-use Rattle.block_tree.specs.Values.{ModelTree, no_goal}
+use Rattle.model_tree.specs.declared.tree.Mode.TheVariants.{Xor}
+use Rattle.model_tree.specs.Tree.{block, no_disjunctions, disjunction, disjunct, no_disjuncts}
+use Rattle.model_tree.specs.Values.{ModelTree, no_goal}
 
 -- the three lines `gdp 1`, `var x real 0 10` and `row 2 x <= 7`
 abbrev pub text : List ℕ

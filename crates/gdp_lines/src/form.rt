@@ -43,9 +43,9 @@ ghost use Rattle.gdp_lines.specs.Lines.{signed, summand, form};
 
 use crate::fault::LineError;
 use crate::token::{Numeral, Token, Tokens};
-use block_tree::Mode;
 use gdp_grammar::{ReadCause, Symbol};
 use lp_rows::{Kind, Rel, Sense};
+use model_tree::Mode;
 use std::alloc::Global;
 
 /// A number with its sign.
@@ -78,7 +78,7 @@ pub enum Form<'a> {
 }
 
 /// Whether the word is no name.
-#[tactic(auto, unfolding(block_tree::specs::Names::reserved_words))]
+#[tactic(auto, unfolding(model_tree::specs::Names::reserved_words))]
 pub fn is_reserved(word: &str) -> bool
     ensures { result ≡ is_reserved_word word.now }
 {

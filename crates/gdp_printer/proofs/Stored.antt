@@ -1,11 +1,11 @@
 -- Rows that are stored, part by part.
 use Rattle.std.proofs.Common.{◌≡◌, ℕ, suc, ◌+◌, ◌<◌, Bool, true, false, ◌&&◌, List, length, get_or, drop, drop-cons, add-one, refl, ap, sym, ◌∙◌}
 use Rattle.lp_rows.specs.Rows.{RowValue}
-use Rattle.block_tree.specs.declared.tree.Disjunct.{Disjunct}
-use Rattle.block_tree.specs.declared.tree.Disjunction.{Disjunction}
-use Rattle.block_tree.specs.Tree.{BlockTree, block, Disjunctions}
-use Rattle.block_tree.specs.View.{disjuncts_of, disjunctions_of, disjunct_of, disjunction_of, rows_in, disjunctions_in}
-use Rattle.block_tree.specs.Sound.{are_rows_stored, is_stored, are_disjunctions_stored, are_disjuncts_stored}
+use Rattle.model_tree.specs.declared.tree.Disjunct.{Disjunct}
+use Rattle.model_tree.specs.declared.tree.Disjunction.{Disjunction}
+use Rattle.model_tree.specs.Tree.{BlockTree, block, Disjunctions}
+use Rattle.model_tree.specs.View.{disjuncts_of, disjunctions_of, disjunct_of, disjunction_of, rows_in, disjunctions_in}
+use Rattle.model_tree.specs.Sound.{are_rows_stored, is_stored, are_disjunctions_stored, are_disjuncts_stored}
 
 both : (a b : Bool) → a ≡ true → b ≡ true → (a && b) ≡ true
 both true b p q = q

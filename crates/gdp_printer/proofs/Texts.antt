@@ -3,17 +3,17 @@ use Rattle.std.proofs.Common.{◌≡◌, ◌≢◌, ℕ, zero, suc, ◌+◌, ℤ
 use Rattle.std.proofs.lemmas.Bool.Decides.{nat_tests}
 use Rattle.lp_rows.specs.Rows.{RowValue}
 use Rattle.propositions.specs.Tree.{PropTree}
-use Rattle.block_tree.specs.declared.tree.Mode.{Mode}
-use Rattle.block_tree.specs.Tree.{BlockTree, Disjunctions, Disjuncts}
-use Rattle.block_tree.specs.Values.{ModelTree}
-use Rattle.block_tree.specs.View.{DisjunctTree, DisjunctionTree, rows_in, props_in, disjunctions_in}
+use Rattle.model_tree.specs.declared.tree.Mode.{Mode}
+use Rattle.model_tree.specs.Tree.{BlockTree, Disjunctions, Disjuncts}
+use Rattle.model_tree.specs.Values.{ModelTree}
+use Rattle.model_tree.specs.View.{DisjunctTree, DisjunctionTree, rows_in, props_in, disjunctions_in}
 use Rattle.gdp_grammar.specs.Canonical.{text_of, row_line, logic_line, block_lines, disjunctions_lines, disjuncts_lines, disjunction_line, disjunct_line, lines_of_disjunction, lines_of_disjunct, spaced, line_of, number_word, sign_word, size_word, name_in, sum_words, terms_over, goal_words, constant_words, var_line, boolean_line, goal_line, free_booleans, canonical_lines}
 use Rattle.gdp_grammar.specs.Lowest.{over}
 use Rattle.gdp_grammar.proofs.Printed.{block_text, framed_text, spaced_appended, model_text}
 use Rattle.std.specs.Prelude.{unsigned_abs}
 use Rattle.std.proofs.lemmas.Bool.{cond-false}
 use Rattle.fractions.specs.Fraction.{Fraction}
-use Rattle.block_tree.specs.Variables.{BooleanValue}
+use Rattle.model_tree.specs.Variables.{BooleanValue}
 
 pub on_ok : {A E : Type 0} {P Q : Type 0} (r : Result A E) → (P → Q) → OnOk r P → OnOk r Q
 on_ok (Ok x) f p = f p

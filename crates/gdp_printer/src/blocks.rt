@@ -1,8 +1,8 @@
 //! The lines of a block and of what is below it.
 
 ghost use Rattle.std.specs.Prelude.{◌≡◌, ◌∷◌, [], ◌++◌, OnOk, true, codes, map};
-ghost use Rattle.block_tree.specs.Values.{model_tree};
-ghost use Rattle.block_tree.specs.View.{
+ghost use Rattle.model_tree.specs.Values.{model_tree};
+ghost use Rattle.model_tree.specs.View.{
   block_of,
   disjunct_of,
   disjunction_of,
@@ -10,7 +10,7 @@ ghost use Rattle.block_tree.specs.View.{
   disjunctions_of,
   props_of,
 };
-ghost use Rattle.block_tree.specs.Sound.{
+ghost use Rattle.model_tree.specs.Sound.{
   are_rows_stored,
   is_stored,
   are_disjunctions_stored,
@@ -29,10 +29,10 @@ ghost use Rattle.gdp_grammar.specs.Canonical.{
 
 use crate::lines::{put_disjunct_line, put_disjunction_line, put_end_line, put_row};
 use crate::props::put_prop_line;
-use block_tree::{Block, Disjunct, Disjunction, Model};
 use fractions::Memory;
 use gdp_io::Text;
 use lp_rows::Row;
+use model_tree::{Block, Disjunct, Disjunction, Model};
 use propositions::Prop;
 use std::alloc::Global;
 

@@ -2,12 +2,12 @@
 
 ghost use Rattle.std.specs.Prelude.{◌≡◌, ◌∷◌, ◌++◌, ◌==◌, OnOk, IfOk, map};
 ghost use Rattle.std.specs.List.{list_any};
-ghost use Rattle.block_tree.specs.Tree.{below, below_disjunctions, below_disjuncts};
-ghost use Rattle.block_tree.specs.View.{block_of, disjunct_of, disjunctions_of, disjuncts_of};
+ghost use Rattle.model_tree.specs.Tree.{below, below_disjunctions, below_disjuncts};
+ghost use Rattle.model_tree.specs.View.{block_of, disjunct_of, disjunctions_of, disjuncts_of};
 ghost use Rattle.gdp_grammar.specs.Canonical.{indicators, numbers_of};
 
-use block_tree::{Block, Disjunct, Disjunction};
 use fractions::Memory;
+use model_tree::{Block, Disjunct, Disjunction};
 use std::alloc::Global;
 
 /// The numbers of the Booleans that are indicators of disjuncts in a block and below it, in order.

@@ -2,7 +2,7 @@
 
 ghost use Rattle.std.specs.Prelude.{◌≡◌, ◌∷◌, [], ◌++◌, OnOk, None, codes};
 ghost use Rattle.lp_rows.specs.Rows.{row_refusal};
-ghost use Rattle.block_tree.specs.Values.{model_tree};
+ghost use Rattle.model_tree.specs.Values.{model_tree};
 ghost use Rattle.gdp_grammar.specs.Canonical.{
   text_of,
   end_word,
@@ -22,10 +22,10 @@ ghost use Rattle.gdp_grammar.specs.Canonical.{
 
 use crate::numbers::{put_number, put_word, quotient};
 use crate::sums::{put_goal_sum, put_sum};
-use block_tree::{Bound, Mode, Model};
 use fractions::{Frac, Memory};
 use gdp_io::{Name, Text};
 use lp_rows::{Kind, Rel, Row, Sense};
+use model_tree::{Bound, Mode, Model};
 use std::alloc::Global;
 
 // A blank and the word of a kind.

@@ -1,7 +1,7 @@
 //! The text of a whole model.
 
 ghost use Rattle.std.specs.Prelude.{◌≡◌, ◌∷◌, [], ◌++◌, OnOk, IfOk, codes, map};
-ghost use Rattle.block_tree.specs.Values.{ModelTree, model_tree};
+ghost use Rattle.model_tree.specs.Values.{ModelTree, model_tree};
 ghost use Rattle.gdp_grammar.specs.CanonicalLaws.{AreSame};
 ghost use Rattle.gdp_grammar.specs.Spelling.{Spells};
 ghost use Rattle.gdp_grammar.specs.Canonical.{text_of, var_line, boolean_line, free_from, canonical_lines, canonical_text};
@@ -9,10 +9,10 @@ ghost use Rattle.gdp_grammar.specs.Canonical.{text_of, var_line, boolean_line, f
 use crate::blocks::put_block;
 use crate::indicators::{indicators_of, is_indicator};
 use crate::lines::{put_boolean, put_goal, put_var};
-use block_tree::{Bound, Model};
 use fractions::Memory;
 use gdp_io::{Name, Text};
 use lp_rows::Kind;
+use model_tree::{Bound, Model};
 use std::alloc::Global;
 
 // The lines of variables.

@@ -3,14 +3,14 @@
 ghost use Rattle.std.specs.Prelude.{◌≡◌, ◌∷◌, [], ◌++◌, OnOk, codes, if◌then◌else◌};
 ghost use Rattle.std.specs.Fmt.{decimal};
 ghost use Rattle.propositions.specs.View.{prop_tree, prop_trees};
-ghost use Rattle.block_tree.specs.Values.{model_tree};
+ghost use Rattle.model_tree.specs.Values.{model_tree};
 ghost use Rattle.gdp_grammar.specs.Canonical.{name_in, line_of, boolean_names};
 ghost use Rattle.gdp_grammar.specs.PropNames.{named_in, all_named_in, prop_text, arguments_text};
 
 use crate::numbers::put_digits;
-use block_tree::Model;
 use fractions::Memory;
 use gdp_io::Text;
+use model_tree::Model;
 use propositions::Prop;
 use std::alloc::Global;
 

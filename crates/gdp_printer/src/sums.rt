@@ -1,7 +1,7 @@
 //! Sums of a row or a goal.
 
 ghost use Rattle.std.specs.Prelude.{◌≡◌, [], ◌∷◌, ◌++◌, OnOk, pos, ◌<ℤ◌};
-ghost use Rattle.block_tree.specs.Values.{model_tree};
+ghost use Rattle.model_tree.specs.Values.{model_tree};
 ghost use Rattle.gdp_grammar.specs.Canonical.{
   spaced,
   var_names,
@@ -15,9 +15,9 @@ ghost use Rattle.gdp_grammar.specs.Canonical.{
 ghost use Rattle.gdp_grammar.specs.Lowest.{over};
 
 use crate::numbers::{put_number, put_signed, put_word, quotient};
-use block_tree::Model;
 use fractions::Memory;
 use gdp_io::Text;
+use model_tree::Model;
 use std::alloc::Global;
 
 // A blank and the name of a variable.

@@ -8,7 +8,7 @@ use Rattle.gdp_grammar.specs.declared.cause.ReadCause.TheVariants as cause
 use Rattle.gdp_grammar.specs.Causes.{◌>>=◌}
 use Rattle.gdp_grammar.specs.Forms.{Summand}
 use Rattle.gdp_grammar.specs.Reading.{or_cause, id_of, known_terms}
-use Rattle.block_tree.specs.Variables.{VarValue}
+use Rattle.model_tree.specs.Variables.{VarValue}
 
 -- terms before those that are read
 abbrev pub with_terms : {X : Type 0} → List X → Result (List X) ReadCause → Result (List X) ReadCause

@@ -5,11 +5,11 @@ use Rattle.propositions.specs.Sizes.{depth_of, node_count_of, most_arguments_of,
 use Rattle.propositions.specs.Tree.{PropTree}
 use Rattle.propositions.specs.Truth.{are_ids_below}
 use Rattle.fractions.specs.Memory.{Acts}
-use Rattle.block_tree.specs.declared.errors.BuildError.{BuildError}
-use Rattle.block_tree.specs.declared.errors.BuildError.TheVariants as refusal
-use Rattle.block_tree.specs.Building.{BuildingValue}
-use Rattle.block_tree.specs.Props.{nodes_so_far, refusal_of_prop, prop_outcome}
-use Rattle.block_tree.specs.Variables.{BooleanValue}
+use Rattle.model_tree.specs.declared.errors.BuildError.{BuildError}
+use Rattle.model_tree.specs.declared.errors.BuildError.TheVariants as refusal
+use Rattle.model_tree.specs.Building.{BuildingValue}
+use Rattle.model_tree.specs.Props.{nodes_so_far, refusal_of_prop, prop_outcome}
+use Rattle.model_tree.specs.Variables.{BooleanValue}
 use Rattle.gdp_grammar.specs.declared.cause.ReadCause.{ReadCause}
 use Rattle.gdp_grammar.specs.declared.cause.ReadCause.TheVariants as cause
 use Rattle.gdp_grammar.specs.Causes.{◌>>=◌, refuse_if}

@@ -3,7 +3,7 @@ use Rattle.std.proofs.Common.{◌≡◌, ◌≢◌, ℕ, ◌+◌, ◌<◌, Bool,
 use Rattle.std.proofs.lemmas.List.{get_or-set_same, get_or-set_other, get_or-replicate, length-set, length-replicate, take_more, map-append, take-append-drop, get_or_default}
 use Rattle.std.proofs.lemmas.Bool.{cases_eq}
 use Rattle.std.proofs.lemmas.Bool.Decides.{nat_tests}
-use Rattle.block_tree.specs.Variables.{VarValue}
+use Rattle.model_tree.specs.Variables.{VarValue}
 use Rattle.gdp_grammar.specs.Reading.{id_of, named, stands_in, has_twice}
 use Rattle.gdp_grammar.proofs.Twice.{stands_push, stands_push_none, twice_push, twice_push_none, twice_more}
 use Rattle.gdp_lines.specs.declared.form.Summand.{Summand}

@@ -2,8 +2,8 @@
 use Rattle.std.proofs.Common.{◌≡◌, ℕ, List, Bool, Result, Ok, Err, ap, sym, ◌∙◌}
 use Rattle.std.specs.Prelude.{IfOk, IfErr}
 use Rattle.lp_rows.specs.Points.{PointValue}
-use Rattle.block_tree.specs.declared.points.ModelPoint.{ModelPoint}
-use Rattle.block_tree.specs.Values.{ModelTree}
+use Rattle.model_tree.specs.declared.points.ModelPoint.{ModelPoint}
+use Rattle.model_tree.specs.Values.{ModelTree}
 use Rattle.gdp_grammar.specs.LineGrammars.{given_by}
 use Rattle.gdp_grammar.specs.Points.{point_grammar, SpellsPoint}
 use Rattle.gdp_grammar.proofs.Threaded.{spelled_by, given_spelled, first_bad_by}

@@ -1,6 +1,6 @@
 -- What the reader makes of a refusal of the builder.
-use Rattle.block_tree.specs.declared.errors.BuildError.{BuildError}
-use Rattle.block_tree.specs.declared.errors.BuildError.TheVariants as refusal
+use Rattle.model_tree.specs.declared.errors.BuildError.{BuildError}
+use Rattle.model_tree.specs.declared.errors.BuildError.TheVariants as refusal
 use Rattle.gdp_grammar.specs.Reading.{cause_of}
 use Rattle.gdp_lines.specs.declared.fault.LineError.{LineError}
 use Rattle.gdp_lines.specs.declared.fault.LineError.TheVariants.{Refused, Memory}

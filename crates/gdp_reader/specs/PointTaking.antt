@@ -1,8 +1,8 @@
 -- What the reader of a point text has taken, and what it answers.
 use Rattle.std.specs.Prelude.{◌≡◌, ℕ, Bool, List, Result, Ok, Err}
 use Rattle.lp_rows.specs.Points.{PointValue}
-use Rattle.block_tree.specs.declared.points.ModelPoint.{ModelPoint}
-use Rattle.block_tree.specs.Values.{ModelTree}
+use Rattle.model_tree.specs.declared.points.ModelPoint.{ModelPoint}
+use Rattle.model_tree.specs.Values.{ModelTree}
 use Rattle.gdp_grammar.specs.PointReading.{PointTaken}
 use Rattle.gdp_grammar.specs.Points.{IsFirstBadOfPoint}
 use Rattle.gdp_reader.specs.declared.error.ReadError.{ReadError}

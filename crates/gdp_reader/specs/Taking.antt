@@ -1,7 +1,7 @@
 -- What the reader of a model text has taken, and what it answers.
 use Rattle.std.specs.Prelude.{◌≡◌, ℕ, List, Result, Ok, Err}
-use Rattle.block_tree.specs.Standing.{stands_for}
-use Rattle.block_tree.specs.Values.{ModelTree, ModelValue, model_tree}
+use Rattle.model_tree.specs.Standing.{stands_for}
+use Rattle.model_tree.specs.Values.{ModelTree, ModelValue, model_tree}
 use Rattle.gdp_grammar.specs.declared.cause.ReadCause.{ReadCause}
 use Rattle.gdp_grammar.specs.Reading.{Taken}
 use Rattle.gdp_grammar.specs.Spelling.{IsFirstBad}

@@ -2,13 +2,13 @@
 
 ghost use Rattle.std.specs.Prelude.{◌≡◌, ℕ, List, map, IfOk};
 ghost use Rattle.std.specs.Option.{option_map};
-ghost use Rattle.block_tree.specs.Nesting.{
+ghost use Rattle.model_tree.specs.Nesting.{
   boolean_outcome,
   open_disjunction_outcome,
   open_disjunct_outcome,
   close_outcome,
 };
-ghost use Rattle.block_tree.specs.Standing.{stands_for};
+ghost use Rattle.model_tree.specs.Standing.{stands_for};
 ghost use Rattle.gdp_grammar.specs.Reading.{
   named,
   has_twice as has_twice_in,
@@ -28,7 +28,6 @@ ghost use Rattle.gdp_lines.specs.Gives.{Gives};
 ghost use Rattle.gdp_lines.specs.Lines.{signed, summand, named_summand, form};
 ghost use Rattle.gdp_lines.specs.Tokens.{spelled};
 
-use block_tree::{Bound, BuildError, Mode, ModelBuilder};
 use fractions::{Frac, Memory};
 use gdp_grammar::ReadCause;
 use gdp_lines::fault::LineError;
@@ -36,6 +35,7 @@ use gdp_lines::form::{Form, Signed, Summand};
 use gdp_lines::token::{Numeral, Tokens};
 use gdp_lines::value::{constant_value, end, signed_whole, value};
 use lp_rows::{Kind, Rel, Sense};
+use model_tree::{Bound, BuildError, Mode, ModelBuilder};
 use prop_reader::logic::line_prop;
 use std::alloc::Global;
 

@@ -1,7 +1,7 @@
 //! Reads model texts.
 
 ghost use Rattle.std.specs.Prelude.{◌≡◌, ◌^◌, ◌-◌, ◌<◌, ◌≤◌, length, IfOk, IfErr};
-ghost use Rattle.block_tree.specs.Values.{ModelTree, model_tree};
+ghost use Rattle.model_tree.specs.Values.{ModelTree, model_tree};
 ghost use Rattle.gdp_grammar.specs.Following.{at_line, follow, text_gives};
 ghost use Rattle.gdp_grammar.specs.Lines.{lines_of};
 ghost use Rattle.gdp_grammar.specs.Reading.{nothing_taken, with_header, with_tokens, with_content, with_line, model_after};
@@ -13,13 +13,13 @@ ghost use Rattle.gdp_reader.specs.Taking.{taken_of, GivesText, IsReadAs, IsRefus
 
 use crate::building::{add, refused};
 use crate::error::ReadError;
-use block_tree::{Model, ModelBuilder};
 use gdp_grammar::ReadCause;
 use gdp_lines::fault::LineError;
 use gdp_lines::form::read_form;
 use gdp_lines::line::{first_line, without_comment};
 use gdp_lines::token::Tokens;
 use gdp_lines::word::{are_words, is_blank};
+use model_tree::{Model, ModelBuilder};
 use std::alloc::Global;
 
 /// What the lines so far gave.

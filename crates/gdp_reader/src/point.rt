@@ -3,7 +3,7 @@
 ghost use Rattle.std.specs.Prelude.{◌≡◌, ◌^◌, ◌-◌, ◌<◌, ◌≤◌, length, List, Bool, IfSome, IfOk, IfErr};
 ghost use Rattle.std.specs.Option.{option_map};
 ghost use Rattle.lp_rows.specs.Points.{PointValue};
-ghost use Rattle.block_tree.specs.Values.{model_tree};
+ghost use Rattle.model_tree.specs.Values.{model_tree};
 ghost use Rattle.gdp_grammar.specs.Following.{at_line};
 ghost use Rattle.gdp_grammar.specs.LineGrammars.{follow_by, given_by};
 ghost use Rattle.gdp_grammar.specs.Lines.{lines_of};
@@ -14,12 +14,12 @@ ghost use Rattle.gdp_reader.specs.Taking.{GivesText};
 
 use crate::error::ReadError;
 use crate::point_taking::PointTaking;
-use block_tree::{Model, ModelPoint};
 use fractions::Memory;
 use gdp_grammar::ReadCause;
 use gdp_lines::fault::LineError;
 use gdp_lines::line::first_line;
 use lp_rows::{Flags, Point, PointError};
+use model_tree::{Model, ModelPoint};
 use std::alloc::Global;
 
 /// What the lines of a text give, and how many there are.

@@ -2,7 +2,7 @@
 
 ghost use Rattle.std.specs.Prelude.{◌≡◌, length, true, is_some, IfOk};
 ghost use Rattle.std.specs.List.{list_all};
-ghost use Rattle.block_tree.specs.Values.{model_tree};
+ghost use Rattle.model_tree.specs.Values.{model_tree};
 ghost use Rattle.gdp_grammar.specs.PointReading.{
   no_point_taken,
   has_number as has_number_of,
@@ -23,7 +23,6 @@ ghost use Rattle.gdp_reader.specs.Denominators.{is_denominator};
 ghost use Rattle.gdp_lines.specs.Gives.{Gives};
 ghost use Rattle.gdp_lines.specs.PointLines.{integer, point_form};
 
-use block_tree::Model;
 use fractions::Memory;
 use gdp_grammar::ReadCause;
 use gdp_lines::fault::LineError;
@@ -31,6 +30,7 @@ use gdp_lines::integer::{integer_value, over_value};
 use gdp_lines::line::without_comment;
 use gdp_lines::point_form::{Integer, PointForm, read_point_form};
 use gdp_lines::word::{are_words, is_blank};
+use model_tree::Model;
 use std::alloc::Global;
 
 /// What the lines so far gave, of a point of the model.

@@ -4,7 +4,7 @@ use Rattle.std.proofs.lemmas.Bool.Decides.{nat_tests}
 use Rattle.propositions.specs.Tree.{PropTree}
 use Rattle.propositions.specs.View.{prop_tree}
 use Rattle.propositions.specs.declared.tree.Prop.{Prop}
-use Rattle.block_tree.specs.Variables.{BooleanValue}
+use Rattle.model_tree.specs.Variables.{BooleanValue}
 use Rattle.gdp_grammar.specs.declared.cause.ReadCause.{ReadCause}
 use Rattle.gdp_grammar.specs.declared.cause.ReadCause.TheVariants as cause
 use Rattle.gdp_grammar.specs.Causes.{◌>>=◌}

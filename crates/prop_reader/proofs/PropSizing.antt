@@ -3,7 +3,7 @@ use Rattle.std.proofs.Common.{◌≡◌, ℕ, suc, ◌+◌, ◌-◌, ◌^◌, �
 use Rattle.std.specs.Option.{option_map}
 use Rattle.std.proofs.lemmas.List.{length-append}
 use Rattle.std.proofs.lemmas.Bool.Decides.{nat_tests}
-use Rattle.block_tree.specs.Variables.{BooleanValue}
+use Rattle.model_tree.specs.Variables.{BooleanValue}
 use Rattle.gdp_grammar.specs.PropNames.{are_known, are_all_known}
 use Rattle.gdp_grammar.specs.PropReading.{wants, made_of, arguments, application, by_names, prop_of}
 use Rattle.gdp_grammar.specs.PropTexts.{Operator, negation, pair, all, some, counted, NamedProp, applied, argument_count, takes}

@@ -4,7 +4,7 @@ use Rattle.std.specs.Option.{option_map}
 use Rattle.std.proofs.lemmas.List.{map-append}
 use Rattle.propositions.specs.Tree.{PropTree, listed, PropTrees, prop}
 use Rattle.propositions.specs.View.{in_order}
-use Rattle.block_tree.specs.Variables.{BooleanValue}
+use Rattle.model_tree.specs.Variables.{BooleanValue}
 use Rattle.gdp_grammar.specs.Numerals.{decimal}
 use Rattle.gdp_grammar.specs.PropNames.{counting_connective, combined, tree_in, trees_in}
 use Rattle.gdp_grammar.specs.PropReading.{wants, made_of, arguments, application, by_names, prop_of}

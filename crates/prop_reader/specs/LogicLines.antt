@@ -1,7 +1,7 @@
 -- The proposition of a line.
 use Rattle.std.specs.Prelude.{List, Option, None, Some, Result, Ok, Err}
 use Rattle.propositions.specs.Tree.{PropTree}
-use Rattle.block_tree.specs.Variables.{BooleanValue}
+use Rattle.model_tree.specs.Variables.{BooleanValue}
 use Rattle.gdp_grammar.specs.declared.cause.ReadCause.{ReadCause}
 use Rattle.gdp_grammar.specs.Causes.{◌>>=◌}
 use Rattle.gdp_grammar.specs.PropNames.{tree_in}

@@ -1,6 +1,6 @@
 -- Why a proposition of a text is refused for its names, its numbers and its size.
 use Rattle.std.specs.Prelude.{ℕ, Bool, not, ◌||◌, List, Option, None, Some, nat_le, if◌then◌else◌}
-use Rattle.block_tree.specs.Variables.{BooleanValue}
+use Rattle.model_tree.specs.Variables.{BooleanValue}
 use Rattle.gdp_grammar.specs.declared.cause.ReadCause.{ReadCause}
 use Rattle.gdp_grammar.specs.declared.cause.ReadCause.TheVariants.{NameUnknown, Number, Nesting, Limit}
 use Rattle.gdp_grammar.specs.PropNames.{are_known}

@@ -1,6 +1,6 @@
 -- How large a proposition of a text is, as far as the reader's numbers go.
 use Rattle.std.specs.Prelude.{ℕ, ◌+◌, ◌-◌, ◌^◌, min, max, true, ◌&&◌, List, Option, None, Some, is_some, if◌then◌else◌}
-use Rattle.block_tree.specs.Variables.{BooleanValue}
+use Rattle.model_tree.specs.Variables.{BooleanValue}
 use Rattle.gdp_grammar.specs.PropNames.{boolean_number, are_known}
 use Rattle.gdp_grammar.specs.PropReading.{Making}
 use Rattle.gdp_grammar.specs.PropTexts.{Operator, NamedProp, takes}

@@ -2,7 +2,7 @@
 use Rattle.std.specs.Prelude.{ℕ, List, [], ◌∷◌, ◌++◌, length, map, Option, None, Some, unwrap_or, if◌then◌else◌}
 use Rattle.propositions.specs.Tree.{PropTree, atom, listed, PropTrees, no_props, prop}
 use Rattle.propositions.specs.View.{in_order, prop_tree}
-use Rattle.block_tree.specs.Variables.{BooleanValue}
+use Rattle.model_tree.specs.Variables.{BooleanValue}
 use Rattle.gdp_grammar.specs.Numerals.{decimal}
 use Rattle.gdp_grammar.specs.PropNames.{boolean_number, counting_connective, combined}
 use Rattle.gdp_grammar.specs.PropReading.{Making}

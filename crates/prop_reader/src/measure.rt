@@ -1,7 +1,7 @@
 //! How large a proposition is, from its tokens: nothing is built.
 
 ghost use Rattle.std.specs.Prelude.{◌≡◌, ◌+◌, ◌-◌, ◌*◌, ◌^◌, min};
-ghost use Rattle.block_tree.specs.Standing.{stands_for};
+ghost use Rattle.model_tree.specs.Standing.{stands_for};
 ghost use Rattle.gdp_grammar.specs.Numerals.{decimal};
 ghost use Rattle.gdp_grammar.specs.PropReading.{prop_of};
 ghost use Rattle.gdp_grammar.specs.PropTexts.{takes as takes_so_many};
@@ -20,11 +20,11 @@ ghost use Rattle.prop_reader.specs.Sizes.{
 
 use crate::head::{Head, Joint, take_head, take_joint};
 use crate::operator::{Operator, WORD_COUNT, operator_finder, operator_words};
-use block_tree::ModelBuilder;
 use gdp_grammar::ReadCause;
 use gdp_lines::fault::LineError;
 use gdp_lines::token::Tokens;
 use gdp_tables::Words;
+use model_tree::ModelBuilder;
 use std::alloc::Global;
 
 /// The size of a proposition: whether each name is that of a Boolean, the greatest number of a counting operator, the

@@ -11,8 +11,8 @@ mod shelves;
 mod tokens;
 mod words;
 
-use block_tree::Model;
 use files::ask_host;
+use model_tree::Model;
 use script::{Trouble, first_word, id, shown, split};
 use shelves::ask_shelf;
 use std::alloc::Global;

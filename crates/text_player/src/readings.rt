@@ -1,8 +1,8 @@
 //! The lines that read a text of a model or a point.
 
 use crate::words::bytes;
-use block_tree::{Model, ModelPoint};
 use gdp_reader::{read_model, read_point};
+use model_tree::{Model, ModelPoint};
 use script::{Trouble, add_to, shown, terms_text};
 use std::alloc::Global;
 

@@ -1,9 +1,9 @@
 //! The lines about the tokens of a line, and about how a text is cut into lines.
 
 use crate::words::{bytes, bytes_text};
-use block_tree::ModelBuilder;
 use gdp_lines::value::value;
 use gdp_lines::{Token, Tokens, are_words, first_line, without_comment};
+use model_tree::ModelBuilder;
 use prop_reader::build::build;
 use prop_reader::measure::{Size, measure};
 use propositions::{depth, greatest_number, most_arguments, node_count};

@@ -1,6 +1,6 @@
 use Rattle.std.proofs.Common.{◌≡◌, ◌++◌, drop, map}
-use Rattle.block_tree.specs.Values.{model_tree}
-use Rattle.block_tree.specs.View.{props_of}
+use Rattle.model_tree.specs.Values.{model_tree}
+use Rattle.model_tree.specs.View.{props_of}
 use Rattle.gdp_grammar.specs.Canonical.{text_of, logic_line}
 use Rattle.gdp_printer.proofs.blocks.put_props.Given as goal
 

@@ -1,7 +1,7 @@
 use Rattle.std.proofs.Common.{◌≡◌, ◌++◌, drop, map}
-use Rattle.block_tree.specs.Values.{model_tree}
+use Rattle.model_tree.specs.Values.{model_tree}
 use Rattle.gdp_grammar.specs.Canonical.{text_of, row_line}
-use Rattle.block_tree.specs.Sound.{are_rows_stored}
+use Rattle.model_tree.specs.Sound.{are_rows_stored}
 use Rattle.gdp_printer.proofs.blocks.put_rows.Given as goal
 
 abbrev pub invariant-loop-row : goal.invariant-loop-row

@@ -1,6 +1,6 @@
 use Rattle.std.proofs.Common.{◌≡◌, ◌++◌, drop}
-use Rattle.block_tree.specs.Tree.{below_disjunctions, below_disjuncts}
-use Rattle.block_tree.specs.View.{disjunctions_of, disjuncts_of}
+use Rattle.model_tree.specs.Tree.{below_disjunctions, below_disjuncts}
+use Rattle.model_tree.specs.View.{disjunctions_of, disjuncts_of}
 use Rattle.gdp_grammar.specs.Canonical.{numbers_of}
 use Rattle.gdp_printer.proofs.indicators.+add.Given as goal
 

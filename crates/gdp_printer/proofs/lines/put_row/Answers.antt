@@ -1,7 +1,7 @@
 use Rattle.std.proofs.Common.{rules, ap, refl, pos, FitsSigned}
 use Rattle.std.proofs.lemmas.Int.{to_z-of_z}
 use mir.Syntax.{w128}
-use Rattle.block_tree.specs.Values.{model_tree}
+use Rattle.model_tree.specs.Values.{model_tree}
 use Rattle.gdp_grammar.specs.Canonical.{var_names, sum_words, terms_over, rel_word, number_word}
 use Rattle.gdp_grammar.specs.Lowest.{over}
 use Rattle.gdp_printer.proofs.Texts.{on_ok, row_put}

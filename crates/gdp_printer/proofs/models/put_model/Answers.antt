@@ -1,6 +1,6 @@
 use Rattle.std.proofs.Common.{ap, refl}
-use Rattle.block_tree.specs.Values.{model_tree}
-use Rattle.block_tree.specs.View.{block_of}
+use Rattle.model_tree.specs.Values.{model_tree}
+use Rattle.model_tree.specs.View.{block_of}
 use Rattle.gdp_grammar.specs.Canonical.{free_booleans}
 use Rattle.gdp_grammar.proofs.Respelled.{canonical_spells}
 use Rattle.gdp_printer.proofs.Texts.{on_ok, model_put}

@@ -1,5 +1,5 @@
 use Rattle.std.proofs.Common.{◌≡◌, ◌++◌, drop}
-use Rattle.block_tree.specs.Values.{model_tree}
+use Rattle.model_tree.specs.Values.{model_tree}
 use Rattle.propositions.specs.View.{prop_trees}
 use Rattle.gdp_grammar.specs.Canonical.{boolean_names}
 use Rattle.gdp_grammar.specs.PropNames.{all_named_in, arguments_text}

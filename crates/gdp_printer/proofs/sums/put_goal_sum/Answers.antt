@@ -1,7 +1,7 @@
 use Rattle.std.proofs.Common.{rules, ap, ◌≡◌, ◌≢◌, ◌∙◌, ◌==◌, ℕ, ℤ, List, [], length, true, FitsSigned}
 use Rattle.std.proofs.lemmas.Int.{to_z-of_z}
 use mir.Syntax.{w128}
-use Rattle.block_tree.specs.Values.{model_tree}
+use Rattle.model_tree.specs.Values.{model_tree}
 use Rattle.gdp_grammar.specs.Canonical.{var_names}
 use Rattle.gdp_printer.proofs.Texts.{on_ok, goal_put}
 use Rattle.gdp_printer.proofs.sums.put_goal_sum.Goals as goal

@@ -1,5 +1,5 @@
 use Rattle.std.proofs.Common.{◌≡◌, ◌++◌, drop}
-use Rattle.block_tree.specs.Values.{model_tree}
+use Rattle.model_tree.specs.Values.{model_tree}
 use Rattle.gdp_grammar.specs.Canonical.{spaced, var_names, terms_over, further_terms}
 use Rattle.gdp_printer.proofs.sums.put_others.Given as goal
 

@@ -1,4 +1,4 @@
-use Rattle.block_tree.specs.Values.{model_tree}
+use Rattle.model_tree.specs.Values.{model_tree}
 use Rattle.gdp_reader.proofs.PointEnds.{found_point, only_point, refused_point}
 use Rattle.gdp_reader.proofs.point.read_point.Goals as goal
 

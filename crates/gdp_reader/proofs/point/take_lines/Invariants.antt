@@ -1,5 +1,5 @@
 use Rattle.std.proofs.Common.{◌≡◌, ◌+◌, ◌≤◌, length}
-use Rattle.block_tree.specs.Values.{model_tree}
+use Rattle.model_tree.specs.Values.{model_tree}
 use Rattle.gdp_grammar.specs.LineGrammars.{follow_by}
 use Rattle.gdp_grammar.specs.Lines.{lines_of}
 use Rattle.gdp_grammar.specs.PointReading.{no_point_taken}

@@ -1,8 +1,0 @@
-use Rattle.std.proofs.Common.{◌≡◌, drop}
-use Rattle.int_linear.specs.Sums.{at}
-use Rattle.block_tree.specs.Tests.{verdict_of, tests_of_vars}
-use Rattle.block_tree.proofs.satisfying.vars_verdict.Given as goal
-
-abbrev pub invariant-loop-place : goal.invariant-loop-place
-invariant-loop-place l =
-    verdict_of (tests_of_vars (drop l.place l.vars) l.place (at l.nums) l.over) ≡ verdict_of (tests_of_vars l.vars 0 (at l.nums) l.over)

@@ -1,8 +1,0 @@
-//! The laws of the definitions, each the contract of a function with an empty body.
-
-ghost use Rattle.block_tree.specs.Items.{PointMeetsConditions};
-
-/// A point of a model makes the condition of each item true.
-pub fn point_meets_conditions()
-    ensures { PointMeetsConditions }
-{}

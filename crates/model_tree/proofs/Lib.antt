@@ -1,0 +1,11 @@
+pub mod Ands
+pub mod Built
+pub mod Earlier
+pub mod Keeping
+pub mod Multiples
+pub mod Named
+pub mod Nested
+pub mod Places
+pub mod Propositions
+pub mod Scales
+pub mod Sorted

@@ -1,0 +1,8 @@
+use Rattle.std.proofs.Common.{◌≡◌, drop}
+use Rattle.int_linear.specs.Sums.{at}
+use Rattle.point_tests.specs.Tests.{verdict_of, tests_of_vars}
+use Rattle.point_tests.proofs.satisfying.vars_verdict.Given as goal
+
+abbrev pub invariant-loop-place : goal.invariant-loop-place
+invariant-loop-place l =
+    verdict_of (tests_of_vars (drop l.place l.vars) l.place (at l.nums) l.over) ≡ verdict_of (tests_of_vars l.vars 0 (at l.nums) l.over)

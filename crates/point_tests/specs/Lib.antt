@@ -1,0 +1,3 @@
+pub mod Satisfied
+pub mod Tests
+pub mod Worth
