@@ -1,5 +1,6 @@
 -- Why a proposition of a text is refused for its names, its numbers and its size.
 use Rattle.std.specs.Prelude.{ℕ, Bool, not, ◌||◌, List, Option, None, Some, nat_le, if◌then◌else◌}
+use Rattle.model_tree.specs.Limits.{most_nodes, deepest_proposition, most_arguments, greatest_number}
 use Rattle.model_tree.specs.Variables.{BooleanValue}
 use Rattle.gdp_grammar.specs.declared.cause.ReadCause.{ReadCause}
 use Rattle.gdp_grammar.specs.declared.cause.ReadCause.TheVariants.{NameUnknown, Number, Nesting, Limit}
@@ -12,9 +13,9 @@ use Rattle.gdp_grammar.specs.PropSizes.{named_greatest, named_depth, named_nodes
 abbrev pub refusal_by : Bool → ℕ → ℕ → ℕ → ℕ → Option ReadCause
 refusal_by known greatest depth nodes most =
     if not known then Some NameUnknown
-    else (if not (nat_le greatest 1000) then Some Number
-    else (if not (nat_le depth 16) then Some Nesting
-    else (if not (nat_le nodes 5000) || not (nat_le most 200) then Some Limit
+    else (if not (nat_le greatest greatest_number) then Some Number
+    else (if not (nat_le depth deepest_proposition) then Some Nesting
+    else (if not (nat_le nodes most_nodes) || not (nat_le most most_arguments) then Some Limit
     else None)))
 
 -- the cause against a size
