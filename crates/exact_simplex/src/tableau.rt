@@ -2,7 +2,7 @@
 
 ghost use Rattle.std.specs.Prelude.{◌≡◌, ◌||◌, ℕ, ℤ, ◌+◌, ◌≤◌, OnOk, OnErr, IfOk, IfErr, IfSome, IfNone};
 ghost use Rattle.lp_frame.specs.Standard.{Standard};
-ghost use Rattle.exact_simplex.specs.Table.{IsTableauFor};
+ghost use Rattle.exact_simplex.specs.Table.{IsSound, IsTableauFor};
 ghost use Rattle.exact_simplex.specs.Bland.{bland_move};
 ghost use Rattle.exact_simplex.specs.Equations.{IsFirstTable, IsTableauOf};
 ghost use Rattle.exact_simplex.specs.Exchange.{IsExchanged, IsNarrowMove, IsWideAtEntry};
@@ -14,9 +14,9 @@ use crate::exchange::exchange_rows;
 use crate::first::{first_basis, first_rows};
 use crate::log::{Event, Log};
 use crate::moves::{Move, Outcome};
-use fractions::Memory;
 use lp_frame::StandardForm;
 use lp_rows::WideAt;
+use outcomes::Memory;
 use simplex_rows::Row;
 use std::alloc::Global;
 use std::marker::Model;
@@ -49,6 +49,7 @@ impl Tableau {
     pub fn make(alloc: Global, standard: &StandardForm) -> Result<Tableau, Memory>
         ensures first { IfOk result (IsFirstTable standard.now) }
         ensures tableau { IfOk result (IsTableauOf standard.now) }
+        ensures sound { IfOk result IsSound }
     {
         let columns = standard.columns() as usize;
         let height = standard.rows().len();
@@ -79,6 +80,7 @@ impl Tableau {
         ensures ok { OnOk result (IsExchanged self.old self.new enter leave) }
         ensures narrow { OnOk result (IsNarrowMove self.old enter leave) }
         ensures tableau { OnOk result ((equation : ℕ → ℕ → ℤ) → IsTableauFor equation self.old → IsTableauFor equation self.new) }
+        ensures sound { OnOk result (IsSound self.new) }
         ensures wide { IfErr result (IsWideAtEntry self.old enter leave) }
         ensures unchanged { OnErr result (self.new ≡ self.old) }
     {

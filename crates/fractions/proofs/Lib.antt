@@ -1,5 +1,4 @@
 pub mod Arithmetic
-pub mod Calls
 pub mod Division
 pub mod Multiples
 pub mod Order

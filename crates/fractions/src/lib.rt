@@ -1,14 +1,12 @@
-//! Exact fractions of 128-bit integers, and the words that nearly every contract cites.
+//! Exact fractions of 128-bit integers.
 //!
-//! Each call gives the exact value, or says that a number left 128 bits. Read `memory.rt` and `wide.rt`
-//! with `specs/Memory.antt` (want of memory, and calls that change a value) and `specs/Width.antt` (what
+//! Each call gives the exact value, or says that a number left 128 bits. Read `wide.rt` with `specs/Width.antt` (what
 //! fits), then `divisors.rt`, and `frac.rt` with `specs/Fraction.antt`.
 #![tactic(auto)]
 
 pub mod divisors;
 pub mod frac;
 pub mod laws;
-pub mod memory;
 pub mod quotients;
 pub mod sums;
 pub mod wide;
@@ -16,7 +14,6 @@ pub mod wide;
 pub use divisors::{divisor_of_both, exact_quotient, gcd, lcm};
 pub use frac::Frac;
 pub use laws::one_lowest_form;
-pub use memory::Memory;
 pub use quotients::compare_quotients;
 pub use sums::add_product;
 pub use wide::Wide;

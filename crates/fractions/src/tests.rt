@@ -2,9 +2,9 @@
 
 use crate::divisors::{divisor_of_both, exact_quotient, gcd, gcd_of_magnitudes, lcm};
 use crate::frac::Frac;
-use crate::memory::Memory;
 use crate::quotients::compare_quotients;
 use crate::sums::add_product;
+use outcomes::Memory;
 use std::alloc::Global;
 use std::cmp::Ordering;
 use std::test::Fail;

@@ -1,7 +1,7 @@
 -- What `format` answers by the text behind the name.
 use Rattle.std.proofs.Common.{ℕ, List, Result, Ok, Err, subst, inl}
 use Rattle.std.specs.Result.{IfOk}
-use Rattle.fractions.specs.declared.memory.Memory.{Memory}
+use Rattle.outcomes.specs.declared.memory.Memory.{Memory}
 use Rattle.gdp_io.specs.Shelf.{Contents, IsBehind}
 use Rattle.gdp_cli.specs.declared.messages.Reply.{Reply}
 use Rattle.gdp_cli.specs.Answers.{Answers}

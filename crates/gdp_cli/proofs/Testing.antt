@@ -1,7 +1,7 @@
 -- What `test` answers by what its texts spell, and by the texts behind the names.
 use Rattle.std.proofs.Common.{◌≡◌, ℕ, Bool, List, Result, Ok, Err, ◌∙◌, subst, ap, inl, inr}
 use Rattle.std.specs.Result.{IfOk}
-use Rattle.fractions.specs.declared.memory.Memory.{Memory}
+use Rattle.outcomes.specs.declared.memory.Memory.{Memory}
 use Rattle.gdp_io.specs.Shelf.{Contents, SameContents, IsBehind}
 use Rattle.lp_rows.specs.Points.{PointValue}
 use Rattle.point_tests.specs.declared.verdicts.Verdict.{Verdict}

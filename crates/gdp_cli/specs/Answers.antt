@@ -1,5 +1,6 @@
 -- What a command answers.
 use Rattle.std.specs.Prelude.{◌≡◌, ◌⊎◌, ℕ, List, Some}
+use Rattle.gdp_cli.specs.Texts.{IsLong}
 use Rattle.gdp_io.specs.Causes.{Rose}
 use Rattle.gdp_io.specs.Shelf.{Contents}
 use Rattle.gdp_cli.specs.declared.status.Status.{Status}
@@ -17,9 +18,14 @@ Says (Test model point) contents status text = (model_text point_text : List ℕ
     TestSays model point model_text point_text status text
 Says (Format model) contents status text = (model_text : List ℕ) → contents model ≡ Some model_text → FormatSays model model_text status text
 
--- the count of a name that the command reads rose, and the text tells that name
-abbrev pub SaysFault : Form → (List ℕ → ℕ) → (List ℕ → ℕ) → List ℕ → Type 0
-SaysFault form before now text = (name : List ℕ) × IsRead form name × Rose (before name) (now name) × (text ≡ read_fault name)
+-- no text that is read before this name is too long, where the contents are told
+abbrev pub FitsBefore : Form → Contents → List ℕ → Type 0
+FitsBefore (Test model point) contents name = (name ≡ model) ⊎ ((all : List ℕ) → contents model ≡ Some all → ¬ IsLong all)
+FitsBefore (Format model) contents name = Unit {0}
+
+-- the count of a name that the command reads rose, what is read before it is not too long, and the text tells that name
+abbrev pub SaysFault : Form → Contents → (List ℕ → ℕ) → (List ℕ → ℕ) → List ℕ → Type 0
+SaysFault form contents before now text = (name : List ℕ) × IsRead form name × FitsBefore form contents name × Rose (before name) (now name) × (text ≡ read_fault name)
 
 -- no count of a name that the command reads rose
 abbrev pub NoFault : Form → (List ℕ → ℕ) → (List ℕ → ℕ) → Type 0
@@ -29,4 +35,4 @@ NoFault form before now = (name : List ℕ) → IsRead form name → ¬ Rose (be
 pub record Answers (form : Form) (contents : Contents) (before now : List ℕ → ℕ) (status : Status) (text : List ℕ) : Type 0 where
   pub one : IsWorked status ⊎ (status ≡ Read)
   pub says : IsWorked status → Says form contents status text
-  pub fault : status ≡ Read → SaysFault form before now text
+  pub fault : status ≡ Read → SaysFault form contents before now text

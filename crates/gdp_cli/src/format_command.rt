@@ -10,10 +10,10 @@ ghost use Rattle.gdp_cli.specs.Words.Form.{Format};
 use crate::messages::Reply;
 use crate::status::Status;
 use crate::texts::{LIMIT, read_failed, refuse_at};
-use fractions::Memory;
 use gdp_io::{Shelf, Text, read_all};
 use gdp_printer::model_text;
 use gdp_reader::{ReadError, read_model};
+use outcomes::Memory;
 use std::alloc::Global;
 
 /// Reads the model's text, and answers by it.

@@ -4,8 +4,8 @@ ghost use Rattle.std.specs.Fmt.{decimal};
 ghost use Rattle.gdp_cli.specs.Messages.{line};
 
 use crate::status::Status;
-use fractions::Memory;
 use gdp_io::Text;
+use outcomes::Memory;
 use std::alloc::Global;
 
 /// What a command answers: a status, and the text that goes with it.

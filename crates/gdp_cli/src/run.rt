@@ -15,8 +15,8 @@ use crate::status::Status;
 use crate::streams::{deliver, say};
 use crate::test_command::test_command;
 use crate::words::{Command, parse_words};
-use fractions::Memory;
 use gdp_io::{Shelf, Sink};
+use outcomes::Memory;
 use std::alloc::Global;
 
 /// Runs the command of the words over a shelf, and writes what it answers. What each command answers is a table of its
@@ -43,7 +43,7 @@ pub fn run<S: Shelf, K: Sink, E: Sink>(
 
     // 5: the count of a name that the command reads rose, and `err` got that name.
     ensures read { (form : Form) → IsForm (words_of words.now) form → result ≡ Status.Read →
-        (text : List ℕ) × SaysFault form (S.faults shelf.old) (S.faults shelf.new) text
+        (text : List ℕ) × SaysFault form (S.contents shelf.old) (S.faults shelf.old) (S.faults shelf.new) text
         × Sent (E.written err.old) (E.written err.new) (E.faults err.old) (E.faults err.new) text }
 
     // 6: the count of `out` rose, and `out` got a part of the text that the command answers.

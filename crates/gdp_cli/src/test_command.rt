@@ -11,10 +11,10 @@ ghost use Rattle.gdp_cli.specs.Words.Form.{Test};
 use crate::messages::{Reply, make_line, make_place};
 use crate::status::Status;
 use crate::texts::{LIMIT, read_failed, refuse_at};
-use fractions::Memory;
 use gdp_io::{Shelf, Text, read_all};
 use gdp_reader::{ReadError, read_model, read_point};
 use model_tree::Model;
+use outcomes::Memory;
 use point_tests::{SumWide, Verdict, satisfies};
 use std::alloc::Global;
 

@@ -5,9 +5,9 @@ ghost use Rattle.gdp_cli.specs.Replies.{ReadFailed};
 
 use crate::messages::{Reply, make_line};
 use crate::status::Status;
-use fractions::Memory;
 use gdp_grammar::ReadCause;
 use gdp_io::{ReadAllError, Text};
+use outcomes::Memory;
 use std::alloc::Global;
 
 /// The limit on a model and a point text, in bytes.

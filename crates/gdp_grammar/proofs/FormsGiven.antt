@@ -5,7 +5,7 @@ use Rattle.std.proofs.lemmas.Bool.Decides.{nat_tests}
 use Rattle.std.proofs.lemmas.Int.{ints}
 use Rattle.fractions.specs.Fraction as fraction
 use Rattle.fractions.specs.Fraction.{IsLowest, IsReduced}
-use Rattle.fractions.specs.Memory.{refuse_if}
+use Rattle.outcomes.specs.Calls.{refuse_if}
 use Rattle.fractions.proofs.Reduction.{reduced_same}
 use Rattle.lp_rows.specs.declared.kinds.Sense.{Sense}
 use Rattle.lp_rows.specs.Holding.{ids_below}

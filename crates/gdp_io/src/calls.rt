@@ -2,7 +2,7 @@
 ghost use Rattle.std.specs.Prelude.{◌≡◌, IfOk, IsTrue, ◌↔◌};
 ghost use Rattle.gdp_io.specs.Calls.{FailsAfter, one_more};
 
-use fractions::Memory;
+use outcomes::Memory;
 use std::alloc::Global;
 
 /// The calls that were made, and the numbers of those that fail.

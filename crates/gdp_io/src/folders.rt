@@ -6,7 +6,7 @@ ghost use Rattle.gdp_io.specs.Shelf.{Reads};
 
 use crate::names::Name;
 use crate::texts::Text;
-use fractions::Memory;
+use outcomes::Memory;
 use std::alloc::Global;
 
 /// A file: a name, and the bytes behind it.

@@ -11,7 +11,7 @@ use crate::calls::Calls;
 use crate::folders::Folder;
 use crate::shelves::{Failed, Shelf};
 use crate::sinks::Sink;
-use fractions::Memory;
+use outcomes::Memory;
 use std::alloc::Global;
 
 /// Files in memory. The calls of the trait are numbered from 1, `begin` and `read` together; those that are

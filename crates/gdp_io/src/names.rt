@@ -1,7 +1,7 @@
 //! A name: what stands for a thing in a text or on the command line.
 ghost use Rattle.std.specs.Prelude.{◌≡◌, length, IfOk};
 
-use fractions::Memory;
+use outcomes::Memory;
 use std::alloc::Global;
 use std::marker::Model;
 

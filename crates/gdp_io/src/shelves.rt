@@ -5,7 +5,7 @@ ghost use Rattle.gdp_io.specs.Causes.{Rose, NoneFell};
 ghost use Rattle.gdp_io.specs.Shelf.{Contents, SameContents, SameOpen, Begins, Reads, IsBehind, IsPast};
 
 use crate::texts::Text;
-use fractions::Memory;
+use outcomes::Memory;
 use std::alloc::Global;
 
 /// A call of a shelf or a sink failed.

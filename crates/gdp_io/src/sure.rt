@@ -8,7 +8,7 @@ ghost use Rattle.gdp_io.specs.Shelf.{SameContents};
 use crate::folders::Folder;
 use crate::shelves::{Failed, Shelf};
 use crate::sinks::Sink;
-use fractions::Memory;
+use outcomes::Memory;
 use std::alloc::Global;
 
 /// Files in memory that are always read. A name that isn't there reads as empty.

@@ -1,7 +1,7 @@
 //! A text: bytes that are read or are to be written.
 ghost use Rattle.std.specs.Prelude.{◌≡◌, [], ◌∷◌, ◌++◌, length, OnOk, OnErr, IfOk, IsTrue, ◌↔◌};
 
-use fractions::Memory;
+use outcomes::Memory;
 use std::alloc::Global;
 use std::marker::Model;
 

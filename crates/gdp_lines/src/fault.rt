@@ -1,7 +1,7 @@
 //! Why a line isn't read.
 
-use fractions::Memory;
 use gdp_grammar::ReadCause;
+use outcomes::Memory;
 use std::alloc::{AllocError, AllocFailed};
 
 /// Why a line isn't read: it is refused, or memory was wanted.

@@ -29,10 +29,10 @@ ghost use Rattle.gdp_grammar.specs.Canonical.{
 
 use crate::lines::{put_disjunct_line, put_disjunction_line, put_end_line, put_row};
 use crate::props::put_prop_line;
-use fractions::Memory;
 use gdp_io::Text;
 use lp_rows::Row;
 use model_tree::{Block, Disjunct, Disjunction, Model};
+use outcomes::Memory;
 use propositions::Prop;
 use std::alloc::Global;
 

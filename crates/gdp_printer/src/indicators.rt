@@ -6,8 +6,8 @@ ghost use Rattle.model_tree.specs.Tree.{below, below_disjunctions, below_disjunc
 ghost use Rattle.model_tree.specs.View.{block_of, disjunct_of, disjunctions_of, disjuncts_of};
 ghost use Rattle.gdp_grammar.specs.Canonical.{indicators, numbers_of};
 
-use fractions::Memory;
 use model_tree::{Block, Disjunct, Disjunction};
+use outcomes::Memory;
 use std::alloc::Global;
 
 /// The numbers of the Booleans that are indicators of disjuncts in a block and below it, in order.

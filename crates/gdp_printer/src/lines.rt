@@ -22,10 +22,11 @@ ghost use Rattle.gdp_grammar.specs.Canonical.{
 
 use crate::numbers::{put_number, put_word, quotient};
 use crate::sums::{put_goal_sum, put_sum};
-use fractions::{Frac, Memory};
+use fractions::Frac;
 use gdp_io::{Name, Text};
 use lp_rows::{Kind, Rel, Row, Sense};
 use model_tree::{Bound, Mode, Model};
+use outcomes::Memory;
 use std::alloc::Global;
 
 // A blank and the word of a kind.

@@ -9,10 +9,10 @@ ghost use Rattle.gdp_grammar.specs.Canonical.{text_of, var_line, boolean_line, f
 use crate::blocks::put_block;
 use crate::indicators::{indicators_of, is_indicator};
 use crate::lines::{put_boolean, put_goal, put_var};
-use fractions::Memory;
 use gdp_io::{Name, Text};
 use lp_rows::Kind;
 use model_tree::{Bound, Model};
+use outcomes::Memory;
 use std::alloc::Global;
 
 // The lines of variables.

@@ -5,8 +5,9 @@ ghost use Rattle.std.specs.Fmt.{decimal};
 ghost use Rattle.gdp_grammar.specs.Canonical.{size_word, minus_word, sign_word, number_word};
 ghost use Rattle.gdp_grammar.specs.Lowest.{over};
 
-use fractions::{Frac, Memory};
+use fractions::Frac;
 use gdp_io::Text;
+use outcomes::Memory;
 use std::alloc::Global;
 
 /// A number over a scale, in lowest terms.

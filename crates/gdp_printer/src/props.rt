@@ -8,9 +8,9 @@ ghost use Rattle.gdp_grammar.specs.Canonical.{name_in, line_of, boolean_names};
 ghost use Rattle.gdp_grammar.specs.PropNames.{named_in, all_named_in, prop_text, arguments_text};
 
 use crate::numbers::put_digits;
-use fractions::Memory;
 use gdp_io::Text;
 use model_tree::Model;
+use outcomes::Memory;
 use propositions::Prop;
 use std::alloc::Global;
 

@@ -15,9 +15,9 @@ ghost use Rattle.gdp_grammar.specs.Canonical.{
 ghost use Rattle.gdp_grammar.specs.Lowest.{over};
 
 use crate::numbers::{put_number, put_signed, put_word, quotient};
-use fractions::Memory;
 use gdp_io::Text;
 use model_tree::Model;
+use outcomes::Memory;
 use std::alloc::Global;
 
 // A blank and the name of a variable.

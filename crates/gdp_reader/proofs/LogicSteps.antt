@@ -4,7 +4,7 @@ use Rattle.std.proofs.lemmas.Bool.Decides.{nat_tests}
 use Rattle.propositions.specs.Sizes.{depth_of, node_count_of, most_arguments_of, greatest_number_of, has_empty_list_of}
 use Rattle.propositions.specs.Tree.{PropTree}
 use Rattle.propositions.specs.Truth.{are_ids_below}
-use Rattle.fractions.specs.Memory.{Acts}
+use Rattle.outcomes.specs.Calls.{Acts}
 use Rattle.model_tree.specs.declared.errors.BuildError.{BuildError}
 use Rattle.model_tree.specs.declared.errors.BuildError.TheVariants as refusal
 use Rattle.model_tree.specs.Building.{BuildingValue}

@@ -28,7 +28,7 @@ ghost use Rattle.gdp_lines.specs.Gives.{Gives};
 ghost use Rattle.gdp_lines.specs.Lines.{signed, summand, named_summand, form};
 ghost use Rattle.gdp_lines.specs.Tokens.{spelled};
 
-use fractions::{Frac, Memory};
+use fractions::Frac;
 use gdp_grammar::ReadCause;
 use gdp_lines::fault::LineError;
 use gdp_lines::form::{Form, Signed, Summand};
@@ -36,6 +36,7 @@ use gdp_lines::token::{Numeral, Tokens};
 use gdp_lines::value::{constant_value, end, signed_whole, value};
 use lp_rows::{Kind, Rel, Sense};
 use model_tree::{Bound, BuildError, Mode, ModelBuilder};
+use outcomes::Memory;
 use prop_reader::logic::line_prop;
 use std::alloc::Global;
 

@@ -14,12 +14,12 @@ ghost use Rattle.gdp_reader.specs.Taking.{GivesText};
 
 use crate::error::ReadError;
 use crate::point_taking::PointTaking;
-use fractions::Memory;
 use gdp_grammar::ReadCause;
 use gdp_lines::fault::LineError;
 use gdp_lines::line::first_line;
 use lp_rows::{Flags, Point, PointError};
 use model_tree::{Model, ModelPoint};
+use outcomes::Memory;
 use std::alloc::Global;
 
 /// What the lines of a text give, and how many there are.

@@ -23,7 +23,6 @@ ghost use Rattle.gdp_reader.specs.Denominators.{is_denominator};
 ghost use Rattle.gdp_lines.specs.Gives.{Gives};
 ghost use Rattle.gdp_lines.specs.PointLines.{integer, point_form};
 
-use fractions::Memory;
 use gdp_grammar::ReadCause;
 use gdp_lines::fault::LineError;
 use gdp_lines::integer::{integer_value, over_value};
@@ -31,6 +30,7 @@ use gdp_lines::line::without_comment;
 use gdp_lines::point_form::{Integer, PointForm, read_point_form};
 use gdp_lines::word::{are_words, is_blank};
 use model_tree::Model;
+use outcomes::Memory;
 use std::alloc::Global;
 
 /// What the lines so far gave, of a point of the model.

@@ -2,8 +2,8 @@
 
 ghost use Rattle.std.specs.Prelude.{◌≡◌, ◌==◌, [], ◌∷◌, ◌++◌, length, OnOk, OnErr};
 
-use fractions::Memory;
 use lp_rows::{ColList, Terms};
+use outcomes::Memory;
 use std::alloc::Global;
 use std::marker::Model;
 

@@ -9,8 +9,8 @@ ghost use Rattle.lp_frame.specs.Standard.{is_standard, standard_of, split_row, S
 
 use crate::force::{AtMost, AtMostList, Force};
 use crate::sizes::{split_count, width};
-use fractions::Memory;
 use lp_rows::{Col, Sign, Terms};
+use outcomes::Memory;
 use std::alloc::Global;
 use std::marker::Model;
 

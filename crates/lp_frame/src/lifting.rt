@@ -8,8 +8,8 @@ ghost use Rattle.lp_frame.specs.Standard.{IsLifted, KeepsPoint};
 
 use crate::force::Force;
 use crate::sizes::width;
-use fractions::Memory;
 use lp_rows::{Col, Point, Sign};
+use outcomes::Memory;
 use std::alloc::Global;
 
 /// The point over the columns: the differences of plus and minus on free columns, the same numbers on others. The

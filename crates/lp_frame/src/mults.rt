@@ -2,7 +2,7 @@
 
 ghost use Rattle.std.specs.Prelude.{◌≡◌, ◌==◌, [], ◌∷◌, ◌++◌, length, OnOk, OnErr};
 
-use fractions::Memory;
+use outcomes::Memory;
 use std::alloc::Global;
 use std::marker::Model;
 

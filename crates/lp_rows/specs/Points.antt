@@ -1,6 +1,6 @@
 -- Points: whole numerators over one denominator.
 use Rattle.std.specs.Prelude.{ℤ, pos, List, Result, Option, None, int_lt}
-use Rattle.fractions.specs.Memory.{refuse_if, refused_or}
+use Rattle.outcomes.specs.Calls.{refuse_if, refused_or}
 use Rattle.lp_rows.specs.declared.points.PointError.{PointError}
 use Rattle.lp_rows.specs.declared.points.PointError.TheVariants.{Over}
 

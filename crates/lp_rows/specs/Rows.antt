@@ -1,7 +1,7 @@
 -- Rows: what they are, and which terms and numbers make one.
 use Rattle.std.specs.Prelude.{ℕ, suc, ◌^◌, ℤ, Bool, true, not, ◌&&◌, List, [], ◌∷◌, Option, None, Result, nat_le, nat_eq, unsigned_abs}
 use Rattle.std.specs.List.{list_all, list_any}
-use Rattle.fractions.specs.Memory.{refuse_if, refused_or}
+use Rattle.outcomes.specs.Calls.{refuse_if, refused_or}
 use Rattle.lp_rows.specs.declared.kinds.Rel.{Rel}
 use Rattle.lp_rows.specs.declared.rows.RowError.{RowError}
 use Rattle.lp_rows.specs.declared.rows.RowError.TheVariants.{Order, Zero, Coefficient}

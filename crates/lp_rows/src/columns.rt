@@ -3,7 +3,7 @@
 ghost use Rattle.std.specs.Prelude.{◌≡◌, ◌==◌, [], ◌∷◌, ◌++◌, length, OnOk, OnErr};
 
 use crate::kinds::Kind;
-use fractions::Memory;
+use outcomes::Memory;
 use std::alloc::Global;
 use std::marker::Model;
 

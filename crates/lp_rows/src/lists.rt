@@ -2,7 +2,7 @@
 
 ghost use Rattle.std.specs.Prelude.{◌≡◌, ◌<◌, ◌≤◌, ◌==◌, [], ◌∷◌, ◌++◌, length, IfOk, IsOk, OnOk, OnErr};
 
-use fractions::Memory;
+use outcomes::Memory;
 use smallvec::SmallVec;
 use std::alloc::Global;
 use std::marker::Model;

@@ -1,7 +1,7 @@
 //! Points: whole numerators over one denominator.
 
 ghost use Rattle.std.specs.Prelude.{◌≡◌, ◌≤ℤ◌, pos};
-ghost use Rattle.fractions.specs.Memory.{OrMemory};
+ghost use Rattle.outcomes.specs.Calls.{OrMemory};
 ghost use Rattle.lp_rows.specs.Points.{point_made};
 
 use crate::lists::Nums;

@@ -1,7 +1,7 @@
 //! Rows: terms in the order of their ids, a relation and a right side.
 
 ghost use Rattle.std.specs.Prelude.{◌≡◌, ◌≤◌, length, None};
-ghost use Rattle.fractions.specs.Memory.{OrMemory};
+ghost use Rattle.outcomes.specs.Calls.{OrMemory};
 ghost use Rattle.lp_rows.specs.Rows.{
   is_storable as storable,
   ascends_from,

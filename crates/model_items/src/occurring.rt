@@ -18,9 +18,9 @@ ghost use Rattle.model_tree.specs.View.{
   disjunctions_of,
 };
 
-use fractions::Memory;
 use lp_rows::Row;
 use model_tree::{Block, Disjunct, Disjunction};
+use outcomes::Memory;
 use std::alloc::Global;
 use std::collections::BTreeSet;
 

@@ -2,7 +2,7 @@
 use Rattle.std.proofs.Common.{◌≡◌, ℕ, true, not, Option, Some, None, length, refl, arith}
 use Rattle.std.proofs.lemmas.List.Elements.{All-nil}
 use Rattle.std.specs.Option.{ForSome}
-use Rattle.fractions.specs.Memory.{refuse_if}
+use Rattle.outcomes.specs.Calls.{refuse_if}
 use Rattle.model_tree.specs.declared.errors.BuildError.TheVariants.{Missing, Unclosed}
 use Rattle.model_tree.specs.Building.{BuildingValue, new_building, is_at_root, refusal_of_finish, built_model, goal_of}
 use Rattle.model_tree.specs.Sound.{is_empty, are_rows_below, are_props_sound, are_disjunctions_sound, is_goal_sound, IsScaleLeast, IsSound}

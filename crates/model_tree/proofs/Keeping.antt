@@ -7,7 +7,8 @@ use Rattle.std.specs.List.{list_all}
 use Rattle.std.specs.Result.{OnOk}
 use Rattle.std.specs.Str.{bytes_eq}
 use Rattle.fractions.specs.Fraction.{Fraction}
-use Rattle.fractions.specs.Memory.{Acts, unless, refuse_if}
+use Rattle.outcomes.specs.Calls.{Acts, unless, refuse_if}
+use Rattle.outcomes.proofs.Calls.{acts_keep}
 use Rattle.lp_rows.specs.declared.kinds.Kind.{Kind}
 use Rattle.lp_rows.specs.Holding.{ids_below}
 use Rattle.lp_rows.specs.Rows.{RowValue, is_storable, row_refusal}
@@ -28,11 +29,6 @@ use Rattle.model_tree.specs.Whole.{is_open_sound, is_opened_sound, is_placed, ar
 use Rattle.model_tree.specs.Values.{GoalValue}
 use Rattle.model_tree.specs.Tree.{BlockTree, block, Disjunctions, no_disjunctions, disjunction, Disjuncts, no_disjuncts, disjunct}
 use Rattle.model_tree.specs.View.{disjuncts, disjunctions}
-
--- a call keeps what its outcome keeps
-pub acts_keep : {S A E : Type 0} (P : S → Type 0) (memory : E) (s : S) (outcome : Result A E × S) (r : Result A E) (next : S)
-    → Acts memory s outcome r next → P s → P outcome.1 → P next
-acts_keep P memory s outcome r next a p q = elim a [ inl x ↦ subst P (sym x.1) q | inr x ↦ subst P (sym x.1) p ]
 
 -- an outcome keeps what holds and what an accepted call leaves
 pub unless_keeps : {S A E : Type 0} (P : S → Type 0) (refusal : Option E) (old : S) (answer : A) (next : S)

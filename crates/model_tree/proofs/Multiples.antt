@@ -14,7 +14,7 @@ use Rattle.lp_rows.specs.declared.kinds.Rel.{Rel}
 use Rattle.lp_rows.specs.declared.rows.RowError.{RowError}
 use Rattle.lp_rows.specs.declared.rows.RowError.TheVariants as row_error
 use Rattle.lp_rows.specs.Rows.{RowValue, is_storable, has_zero, are_storable, ascends_from, row_refusal, row_made}
-use Rattle.fractions.specs.Memory.{OrMemory, refuse_if, refused_or}
+use Rattle.outcomes.specs.Calls.{OrMemory, refuse_if, refused_or}
 use Rattle.model_tree.specs.declared.errors.BuildError.{BuildError}
 use Rattle.model_tree.specs.declared.errors.BuildError.TheVariants.{Number, NameTwice, NameUnknown, Memory}
 use Rattle.model_tree.specs.declared.scaling.Stored.{Stored}

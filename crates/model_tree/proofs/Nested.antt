@@ -6,7 +6,7 @@ use Rattle.std.specs.List.{list_all}
 use Rattle.std.specs.Option.{ForSome}
 use Rattle.std.specs.Result.{OnOk}
 use Rattle.fractions.specs.Fraction.{Fraction}
-use Rattle.fractions.specs.Memory.{Acts, refuse_if}
+use Rattle.outcomes.specs.Calls.{Acts, refuse_if}
 use Rattle.lp_rows.specs.declared.kinds.Rel.{Rel}
 use Rattle.lp_rows.specs.declared.kinds.Sense.{Sense}
 use Rattle.lp_rows.specs.Holding.{ids_below}

@@ -1,7 +1,7 @@
 -- What a builder keeps where a proposition is added, and how its nodes are counted.
 use Rattle.std.proofs.Common.{◌≡◌, ℕ, ◌+◌, ◌≤◌, true, false, not, ◌&&◌, ◌||◌, List, [], ◌∷◌, ◌++◌, length, Option, None, refl, ap, arith, min, nat_le, is_some, ◌<◌}
 use Rattle.std.proofs.lemmas.Bool.Decides.{nat_tests}
-use Rattle.fractions.specs.Memory.{refuse_if}
+use Rattle.outcomes.specs.Calls.{refuse_if}
 use Rattle.propositions.specs.Sizes.{node_count_of}
 use Rattle.propositions.specs.Tree.{PropTree}
 use Rattle.propositions.specs.Truth.{are_ids_below}

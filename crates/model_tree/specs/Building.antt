@@ -2,7 +2,7 @@
 use Rattle.std.specs.Prelude.{ℕ, ◌+◌, Bool, not, ◌&&◌, ◌||◌, List, [], ◌∷◌, ◌++◌, length, map, Option, None, Some, is_some, is_none, Result, nat_lt, nat_le}
 use Rattle.std.specs.List.{list_all}
 use Rattle.fractions.specs.Fraction.{Fraction}
-use Rattle.fractions.specs.Memory.{refuse_if, refused_or, unless}
+use Rattle.outcomes.specs.Calls.{refuse_if, refused_or, unless}
 use Rattle.lp_rows.specs.declared.kinds.Kind.{Kind}
 use Rattle.lp_rows.specs.declared.kinds.Rel.{Rel}
 use Rattle.lp_rows.specs.Rows.{RowValue, is_storable, has_zero, are_storable}

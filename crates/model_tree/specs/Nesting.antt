@@ -1,7 +1,7 @@
 -- What the calls of a builder answer and leave that declare Booleans, open and close, and set the goal.
 use Rattle.std.specs.Prelude.{ℕ, pos, not, ◌||◌, List, [], ◌∷◌, ◌++◌, length, Option, None, Some, is_some, Result, Ok, Err, nat_le}
 use Rattle.fractions.specs.Fraction.{Fraction}
-use Rattle.fractions.specs.Memory.{refuse_if, unless}
+use Rattle.outcomes.specs.Calls.{refuse_if, unless}
 use Rattle.lp_rows.specs.declared.kinds.Sense.{Sense}
 use Rattle.lp_rows.specs.Rows.{is_storable}
 use Rattle.model_tree.specs.declared.errors.BuildError.{BuildError}

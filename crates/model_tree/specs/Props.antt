@@ -1,6 +1,6 @@
 -- Propositions in a builder: what the call that adds one answers and leaves.
 use Rattle.std.specs.Prelude.{ℕ, ◌+◌, not, ◌||◌, List, [], ◌∷◌, ◌++◌, length, Option, None, Some, is_some, Result, nat_le}
-use Rattle.fractions.specs.Memory.{refuse_if, unless}
+use Rattle.outcomes.specs.Calls.{refuse_if, unless}
 use Rattle.propositions.specs.Sizes.{node_count_of}
 use Rattle.propositions.specs.Tree.{PropTree}
 use Rattle.propositions.specs.Truth.{are_ids_below}

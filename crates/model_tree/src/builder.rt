@@ -2,7 +2,7 @@
 
 ghost use Rattle.std.specs.Prelude.{◌≡◌, true, Ok, Err, IfOk, IfErr, map, position};
 ghost use Rattle.std.specs.Str.{bytes_eq};
-ghost use Rattle.fractions.specs.Memory.{Acts};
+ghost use Rattle.outcomes.specs.Calls.{Acts};
 ghost use Rattle.model_tree.specs.Builders.{building_of, IsCounted};
 ghost use Rattle.model_tree.specs.Building.{new_building, var_outcome, row_outcome, finish_outcome};
 ghost use Rattle.model_tree.specs.Nesting.{

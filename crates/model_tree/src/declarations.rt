@@ -6,9 +6,9 @@ ghost use Rattle.model_tree.specs.Names.{has_name};
 
 use crate::bounds::Bound;
 use crate::names::Names;
-use fractions::Memory;
 use gdp_io::Name;
 use lp_rows::Kind;
+use outcomes::Memory;
 use std::alloc::Global;
 use std::marker::Model;
 

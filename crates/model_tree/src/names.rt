@@ -13,8 +13,8 @@ ghost use Rattle.model_tree.specs.Names.{
 };
 
 use crate::limits::LONGEST_NAME;
-use fractions::Memory;
 use indexmap::IndexSet;
+use outcomes::Memory;
 use std::alloc::Global;
 use std::marker::Model;
 

@@ -1,7 +1,7 @@
 //! The parts of a builder, and its calls on them.
 
 ghost use Rattle.std.specs.Prelude.{◌≡◌, None, IsSome, IsNone, OnOk};
-ghost use Rattle.fractions.specs.Memory.{Acts, OrMemory, refused_or};
+ghost use Rattle.outcomes.specs.Calls.{Acts, OrMemory, refused_or};
 ghost use Rattle.model_tree.specs.Building.{
   new_building,
   var_outcome,

@@ -23,12 +23,12 @@ ghost use Rattle.prop_reader.specs.Trees.{
 use crate::head::{Head, Joint, take_head, take_joint};
 use crate::measure::{number_of, takes};
 use crate::operator::{Counting, Operator, WORD_COUNT, operator_finder, operator_words};
-use fractions::Memory;
 use gdp_grammar::ReadCause;
 use gdp_lines::fault::LineError;
 use gdp_lines::token::Tokens;
 use gdp_tables::Words;
 use model_tree::ModelBuilder;
+use outcomes::Memory;
 use propositions::Prop;
 use std::alloc::Global;
 

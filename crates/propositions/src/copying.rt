@@ -4,7 +4,7 @@ ghost use Rattle.std.specs.Prelude.{◌≡◌, map, IfOk};
 ghost use Rattle.propositions.specs.View.{prop_tree};
 
 use crate::tree::Prop;
-use fractions::Memory;
+use outcomes::Memory;
 use std::alloc::Global;
 
 /// An equal proposition.

@@ -1,6 +1,6 @@
 //! Why a script stops.
 
-use fractions::Memory;
+use outcomes::Memory;
 use std::alloc::{AllocError, AllocFailed};
 use std::io;
 

@@ -5,9 +5,9 @@
 ghost use Rattle.std.specs.Prelude.{◌≡◌};
 ghost use Rattle.simplex_bench.specs.declared.problem.BadProblem.{BadProblem};
 
-use fractions::Memory;
 use lp_frame::{AtMost, AtMostList, Force, StandardForm, bounded, standard};
 use lp_rows::{Col, ColList, Kind, Sign, Terms};
+use outcomes::Memory;
 use std::alloc::{AllocError, AllocFailed, Global};
 use std::io;
 use std::num::{ParseIntError, TryFromIntError};

@@ -4,8 +4,8 @@ ghost use Rattle.std.specs.Prelude.{IfOk};
 ghost use Rattle.simplex_bench.specs.Replays.{IsReplay};
 
 use exact_simplex::{Log, Outcome, Tableau};
-use fractions::Memory;
 use lp_frame::StandardForm;
+use outcomes::Memory;
 use std::alloc::Global;
 
 /// The most moves of a run.

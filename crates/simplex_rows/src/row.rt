@@ -9,7 +9,7 @@ ghost use Rattle.simplex_rows.specs.Steps.{IsCleared, IsPivotRow, KeepsEntry};
 ghost use Rattle.simplex_rows.specs.Width.{IsNarrowStepOf, IsFirstWideStep};
 
 use crate::slices::{clear_entries, first_wide, is_small, write_dropped_pivot, write_pivot};
-use fractions::Memory;
+use outcomes::Memory;
 use std::alloc::Global;
 use std::marker::Model;
 

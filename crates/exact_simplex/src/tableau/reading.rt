@@ -19,9 +19,10 @@ use crate::moves::{Move, ReadOut};
 use crate::ray::ray_of;
 use crate::tableau::Tableau;
 use crate::values::point_of;
-use fractions::{Frac, Memory};
+use fractions::Frac;
 use lp_frame::Mults;
 use lp_rows::{Nums, Point};
+use outcomes::Memory;
 use simplex_rows::Row;
 use std::alloc::Global;
 

@@ -86,6 +86,19 @@ invariant_of-self-in-Ok c =
     subst (λ u. IsSoundWith u c.exchange_rows.new.spare) (sym (new_is t c.self.inside.rows.len c.find_row-row.result m.row c.args.enter c.exchange_rows.new.rows c.self.inside.rows.items c.either-self-inside.result c.either-self-inside.result len found refl))
     (record { sound = sound_after t c.self.invariant.sound c.args.enter c.args.leave m c.exchange_rows.new.rows x c.either-self-inside.result count shape; spare_width = c.exchange_rows.ensures.spare ∙ c.self.invariant.spare_width })
 
+pub returns-in-Ok-clause-sound : goal.returns-in-Ok-clause-sound
+returns-in-Ok-clause-sound c =
+    let t : Table = record { columns = c.self.inside.columns; height = c.self.inside.height; rows = c.self.inside.rows.items; basis = c.self.inside.basis.items; dropped = c.self.inside.dropped } in
+    let m : IsNamed t c.args.enter c.args.leave = named t c.self.invariant.sound c.args.enter c.args.leave (subst (λ u. bland_move u ≡ Exchange c.args.enter c.args.leave) (sym c.self.view_is) c.requires) in
+    let found : c.find_row-row.result ≡ m.row = row_found t c.deref.result.now c.args.leave c.find_row-row.result c.deref.ensures.value c.find_row-row.ensures.value ∙ m.row_is in
+    let x : IsExchange (width t) (t.height + 1) (counted t c.args.leave) m.row c.args.enter (matrix c.exchange_rows.new.rows) =
+    exchange_at t c.args.enter c.args.leave (length c.self.inside.spare) c.find_row-row.result c.deref_mut.result.now c.exchange_rows.new.rows m.row c.self.invariant.sound c.self.invariant.spare_width c.deref_mut.ensures.value found c.in-Ok.ensures.ok in
+    let count : length c.exchange_rows.new.rows ≡ t.height + 1 = c.exchange_rows.auto.rows ∙ ap length c.deref_mut.ensures.value ∙ c.self.invariant.sound.row_count in
+    let shape : IsRectangle (width t) c.exchange_rows.new.rows = subst (λ n. IsRectangle n c.exchange_rows.new.rows) c.self.invariant.spare_width c.exchange_rows.ensures.shape in
+    let len : length c.exchange_rows.new.rows ≡ c.self.inside.rows.len = c.exchange_rows.auto.rows ∙ c.deref_mut.ensures.len in
+    subst IsSound (sym (new_is t c.self.inside.rows.len c.find_row-row.result m.row c.args.enter c.exchange_rows.new.rows c.self.inside.rows.items c.either-self-inside.result c.either-self-inside.result len found refl))
+    (sound_after t c.self.invariant.sound c.args.enter c.args.leave m c.exchange_rows.new.rows x c.either-self-inside.result count shape)
+
 pub returns-in-Ok-clause-ok : goal.returns-in-Ok-clause-ok
 returns-in-Ok-clause-ok c =
     let t : Table = record { columns = c.self.inside.columns; height = c.self.inside.height; rows = c.self.inside.rows.items; basis = c.self.inside.basis.items; dropped = c.self.inside.dropped } in

@@ -27,6 +27,19 @@ invariant_of-result c =
       spare_width = spare;
     }
 
+pub returns-clause-sound : goal.returns-clause-sound
+returns-clause-sound c =
+    let form = c.args.standard.now in
+    let columns = c.columns-columns.result in
+    let height = length c.rows-height.result.now in
+    let he : length c.rows-height.result.now ≡ length c.args.standard.now.rows = ap length c.rows-height.ensures in
+    let rows : AreFirst c.columns-columns.result c.args.standard.now.rows c.args.standard.now.goal c.in_ok-rows.rows.items =
+    first_of_same columns c.rows.result.now c.args.standard.now.rows c.goal.result.now c.args.standard.now.goal c.in_ok-rows.rows.items c.rows.ensures c.goal.ensures c.in_ok-rows.ensures in
+    let basis : IsFirstBasis c.columns-columns.result (length c.rows-height.result.now) c.in_ok-basis.basis.items = c.in_ok-basis.ensures in
+    let first = made_first form columns height c.in_ok-rows.rows.items c.in_ok-basis.basis.items c.columns-columns.ensures.value he rows basis in
+    let count : length c.in_ok-rows.rows.items ≡ length c.rows-height.result.now + 1 = let n = rows.count in omega arith in
+    first_sound form c.columns-columns.ensures.sound (made columns height c.in_ok-rows.rows.items c.in_ok-basis.basis.items) first count basis.count (made_shape form columns height c.in_ok-rows.rows.items he rows)
+
 pub returns-clause-first : goal.returns-clause-first
 returns-clause-first c =
     let form = c.args.standard.now in

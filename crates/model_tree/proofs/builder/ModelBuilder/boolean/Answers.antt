@@ -2,7 +2,8 @@ use Rattle.model_tree.specs.declared.errors.BuildError.TheVariants.{Memory}
 use Rattle.model_tree.specs.Builders.{building_of}
 use Rattle.model_tree.specs.Nesting.{boolean_outcome}
 use Rattle.model_tree.specs.Whole.{IsWhole}
-use Rattle.model_tree.proofs.Keeping.{acts_keep, counted_keeps}
+use Rattle.outcomes.proofs.Calls.{acts_keep}
+use Rattle.model_tree.proofs.Keeping.{counted_keeps}
 use Rattle.model_tree.proofs.Nested.{boolean_keeps_whole, boolean_keeps_counted}
 use Rattle.model_tree.proofs.builder.ModelBuilder.boolean.Goals as goal
 

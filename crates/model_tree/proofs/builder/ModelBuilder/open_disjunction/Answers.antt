@@ -2,7 +2,8 @@ use Rattle.model_tree.specs.declared.errors.BuildError.TheVariants.{Memory}
 use Rattle.model_tree.specs.Builders.{building_of}
 use Rattle.model_tree.specs.Nesting.{open_disjunction_outcome}
 use Rattle.model_tree.specs.Whole.{IsWhole}
-use Rattle.model_tree.proofs.Keeping.{acts_keep, counted_keeps}
+use Rattle.outcomes.proofs.Calls.{acts_keep}
+use Rattle.model_tree.proofs.Keeping.{counted_keeps}
 use Rattle.model_tree.proofs.Nested.{open_disjunction_keeps_whole, open_disjunction_keeps_counted}
 use Rattle.model_tree.proofs.builder.ModelBuilder.open_disjunction.Goals as goal
 

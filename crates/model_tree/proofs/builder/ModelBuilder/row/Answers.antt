@@ -2,7 +2,7 @@ use Rattle.model_tree.specs.declared.errors.BuildError.TheVariants.{Memory}
 use Rattle.model_tree.specs.Builders.{building_of}
 use Rattle.model_tree.specs.Building.{row_outcome}
 use Rattle.model_tree.specs.Whole.{IsWhole}
-use Rattle.model_tree.proofs.Keeping.{acts_keep}
+use Rattle.outcomes.proofs.Calls.{acts_keep}
 use Rattle.model_tree.proofs.Nested.{row_keeps_whole}
 use Rattle.model_tree.proofs.builder.ModelBuilder.row.Goals as goal
 

@@ -1,6 +1,6 @@
 -- What a call that meets its outcome keeps.
 use Rattle.std.proofs.Common.{Result, subst, sym, inl, inr}
-use Rattle.fractions.specs.Memory.{Acts}
+use Rattle.outcomes.specs.Calls.{Acts}
 
 -- what holds of the value before the call and of the outcome's value holds after the call
 pub acts_keep : {S A E : Type 0} (P : S → Type 0) (memory : E) (old : S) (outcome : Result A E × S) (result : Result A E) (new : S) → Acts memory old outcome result new → P old → P outcome.1 → P new
