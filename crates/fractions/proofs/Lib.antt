@@ -1,5 +1,6 @@
 pub mod Arithmetic
 pub mod Division
+pub mod LowestLemmas
 pub mod Multiples
 pub mod Order
 pub mod Outcomes

@@ -4,7 +4,7 @@ use Rattle.std.proofs.lemmas.Bool.Decides.{nat_tests}
 use Rattle.std.proofs.lemmas.Int.{to_z-of_z}
 use Rattle.std.specs.Prelude.{FitsSigned, int_div}
 use Rattle.std.specs.Int.{w128, cast_unsigned, cast_signed, CanDivide}
-use Rattle.fractions.specs.Width.{fits, IsNarrow}
+use Rattle.fractions.specs.Width.{fits, IsNarrow, is_narrow}
 
 pub fits_from_range : (z : ℤ) → FitsSigned w128 z → fits z ≡ true
 fits_from_range (pos n) h = let s = h.sfits in grind (arith, nat_tests)
@@ -25,6 +25,13 @@ wide_from_range z h = go (fits z) refl
 pub narrow_fits : (z : ℤ) → IsNarrow z → fits z ≡ true
 narrow_fits (pos n) h = grind (arith, nat_tests)
 narrow_fits (negsuc n) h = grind (arith, nat_tests)
+
+-- the test of a narrow number and the fact
+pub narrow_from_test : (z : ℤ) → is_narrow z ≡ true → IsNarrow z
+narrow_from_test z h = grind (arith, nat_tests)
+
+pub test_from_narrow : (z : ℤ) → IsNarrow z → is_narrow z ≡ true
+test_from_narrow z h = grind (arith, nat_tests)
 
 -- numbers with the same bits are the same
 pub same_from_bits : (x y : ℤ) → FitsSigned w128 x → FitsSigned w128 y → cast_unsigned w128 x ≡ cast_unsigned w128 y → x ≡ y

@@ -1,4 +1,5 @@
 pub mod Divisors
 pub mod Fraction
 pub mod Laws
+pub mod Lowest
 pub mod Width

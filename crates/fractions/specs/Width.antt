@@ -15,6 +15,10 @@ IsWide z = fits z ≡ false
 abbrev pub IsNarrow : ℤ → Type 0
 IsNarrow z = unsigned_abs z < 2 ^ 127
 
+-- the test of it
+abbrev pub is_narrow : ℤ → Bool
+is_narrow z = nat_lt (unsigned_abs z) (2 ^ 127)
+
 -- a sum of products goes on: the next product and the next partial sum fit
 abbrev pub step_fits : ℤ → ℤ → ℤ → Bool
 step_fits sum a b = fits (a *ℤ b) && fits (sum +ℤ a *ℤ b)

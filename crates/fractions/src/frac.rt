@@ -55,6 +55,18 @@ impl Frac {
         Some(Frac { num, den })
     }
 
+    /// `num / den` in lowest terms, for a positive denominator. Nothing is refused: neither part grows, so both fit.
+    pub fn reduced(num: i128, den: i128) -> Frac
+        requires { pos 0 <ℤ den }
+        ensures { IsReduced num den result }
+    {
+        let common = divisor_of_both(den, num);
+        Frac {
+            num: exact_quotient(num, common),
+            den: exact_quotient(den, common),
+        }
+    }
+
     /// The numerator.
     pub fn num(&self) -> i128
         ensures { result ≡ self.now.num }
@@ -130,18 +142,6 @@ impl Frac {
             floor
         } else {
             floor + 1
-        }
-    }
-
-    // A positive denominator only gets smaller, so nothing can be wide.
-    fn reduced(num: i128, den: i128) -> Frac
-        requires { pos 0 <ℤ den }
-        ensures { IsReduced num den result }
-    {
-        let common = divisor_of_both(den, num);
-        Frac {
-            num: exact_quotient(num, common),
-            den: exact_quotient(den, common),
         }
     }
 }
