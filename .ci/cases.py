@@ -705,7 +705,7 @@ def streams():
 
 def examples(root):
     """Each example with its points, read where it stands, and its canonical text; the README of the examples says the lines."""
-    said = {"blend": 7, "delivery": 12, "tank": 5, "process_route": 20, "transport": 34, "schedule": 9, "site_selection": 58, "plant_units": 33}
+    said = {"blend": 11, "delivery": 16, "tank": 8, "process_route": 20, "transport": 34, "schedule": 9, "site_selection": 58, "plant_units": 33}
     folder = root / "examples"
     rows = []
     for path in sorted(folder.glob("*.gdp")):
