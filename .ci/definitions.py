@@ -1,10 +1,11 @@
 #!/usr/bin/env python3
-"""Writes the two generated pages on definitions, from the sources:
+"""Writes what is generated in docs/, from the sources:
 
 - docs/DEFINITIONS.md, the index: each definition that the contract of a public function names, and where it stands;
-- docs/TRUSTED.md: the text of every definition that the contract of the top call `run` rests on, lowest layer first.
+- docs/TRUSTED.md: the text of every definition that the contract of the top call `run` rests on, lowest layer first;
+- the table in docs/ARCHITECTURE.md of the crates that an edit reaches.
 
-Run it after a change in specs/, or of a contract. With `--check` it changes nothing, and its status is 1 where a page is
+Run it after a change in specs/, of a contract, or of crates.txt. With `--check` it changes nothing, and its status is 1 where a page is
 not as it would write it. With `--count` it prints how many definitions and lines docs/TRUSTED.md has.
 
 What a definition rests on is read off its text: each word of it that its file defines or imports, but not the words that
@@ -20,6 +21,7 @@ ROOT = pathlib.Path(__file__).resolve().parent.parent
 CRATES = ROOT / "crates"
 INDEX = ROOT / "docs" / "DEFINITIONS.md"
 TRUSTED = ROOT / "docs" / "TRUSTED.md"
+ARCHITECTURE = ROOT / "docs" / "ARCHITECTURE.md"
 
 INDEX_HEAD = """\
 <!-- Written by .ci/definitions.py; do not edit. -->
@@ -46,6 +48,9 @@ planner's words.
 | crate | definitions | lines |
 |---|---|---|
 """
+
+REACH_BEGINS = "<!-- The table below is written by .ci/definitions.py. -->"
+REACH_ENDS = "<!-- The table above is written by .ci/definitions.py. -->"
 
 STD_HEAD = """\
 
@@ -427,15 +432,45 @@ def index_page():
     return page
 
 
+def below_each():
+    """For each crate those that it stands on, all the way down."""
+    below = {}
+    for line in (ROOT / "crates.txt").read_text().splitlines():
+        crate, colon, others = line.split("#")[0].partition(":")
+        if colon:
+            direct = [other for other in others.split() if other in below]
+            below[crate.strip()] = {*direct, *(name for other in direct for name in below[other])}
+    return below
+
+
+def reach_table():
+    """Which crates an edit of each reaches: those that stand on it."""
+    below, all_of = below_each(), crates()
+    table = "| an edit in | is proved anew in | that is |\n|---|---|---|\n"
+    for crate in all_of:
+        above = [other for other in all_of if crate in below[other]]
+        others = [other for other in all_of if other != crate and other not in above]
+        names = [f"`{other}`" for other in min(above, others, key=len)]
+        words = "it alone" if not above else f"it, {', '.join(names)}" if len(above) <= len(others) else f"all but {', '.join(names)}"
+        table += f"| `{crate}` | {len(above) + 1} of {len(all_of)} crates | {words} |\n"
+    return table
+
+
+def architecture_page():
+    """The page as it is, with its table anew."""
+    page = ARCHITECTURE.read_text()
+    return re.sub(rf"({re.escape(REACH_BEGINS)}\n).*?({re.escape(REACH_ENDS)})", lambda m: m[1] + "\n" + reach_table() + "\n" + m[2], page, flags=re.S)
+
+
 def main():
     if sys.argv[1:] == ["--count"]:
         units = trusted_units()[1]
         print(f"{sum(map(count_of, units))} definitions, {sum(unit.text.count(chr(10)) + 1 for unit in units)} lines")
         return 0
-    pages = {INDEX: index_page(), TRUSTED: trusted_page()}
+    pages = {INDEX: index_page(), TRUSTED: trusted_page(), ARCHITECTURE: architecture_page()}
     if sys.argv[1:] == ["--check"]:
         stale = [path.name for path, page in pages.items() if not path.is_file() or path.read_text() != page]
-        print(f"run .ci/definitions.py: not as the sources say: {', '.join(stale)}" if stale else "definitions: as the sources say")
+        print(f"run .ci/definitions.py: not as the sources say: {', '.join(stale)}" if stale else "docs: what is generated is as the sources say")
         return 1 if stale else 0
     for path, page in pages.items():
         path.write_text(page)
