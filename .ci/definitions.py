@@ -3,7 +3,8 @@
 
 - docs/DEFINITIONS.md, the index: each definition that the contract of a public function names, and where it stands;
 - docs/TRUSTED.md: the text of every definition that the contract of the top call `run` rests on, lowest layer first;
-- the table in docs/ARCHITECTURE.md of the crates that an edit reaches.
+- the table in docs/ARCHITECTURE.md of the crates that an edit reaches;
+- the number of those definitions in README.md, behind `<!-- count -->`.
 
 Run it after a change in specs/, of a contract, or of crates.txt. With `--check` it changes nothing, and its status is 1 where a page is
 not as it would write it. With `--count` it prints how many definitions and lines docs/TRUSTED.md has.
@@ -22,6 +23,7 @@ CRATES = ROOT / "crates"
 INDEX = ROOT / "docs" / "DEFINITIONS.md"
 TRUSTED = ROOT / "docs" / "TRUSTED.md"
 ARCHITECTURE = ROOT / "docs" / "ARCHITECTURE.md"
+README = ROOT / "README.md"
 
 INDEX_HEAD = """\
 <!-- Written by .ci/definitions.py; do not edit. -->
@@ -462,12 +464,18 @@ def architecture_page():
     return re.sub(rf"({re.escape(REACH_BEGINS)}\n).*?({re.escape(REACH_ENDS)})", lambda m: m[1] + "\n" + reach_table() + "\n" + m[2], page, flags=re.S)
 
 
+def readme_page():
+    """The page as it is, with its number of definitions anew."""
+    count = sum(map(count_of, trusted_units()[1]))
+    return re.sub(r"(?<=<!-- count -->)[\d,]+", f"{count:,}", README.read_text())
+
+
 def main():
     if sys.argv[1:] == ["--count"]:
         units = trusted_units()[1]
         print(f"{sum(map(count_of, units))} definitions, {sum(unit.text.count(chr(10)) + 1 for unit in units)} lines")
         return 0
-    pages = {INDEX: index_page(), TRUSTED: trusted_page(), ARCHITECTURE: architecture_page()}
+    pages = {INDEX: index_page(), TRUSTED: trusted_page(), ARCHITECTURE: architecture_page(), README: readme_page()}
     if sys.argv[1:] == ["--check"]:
         stale = [path.name for path, page in pages.items() if not path.is_file() or path.read_text() != page]
         print(f"run .ci/definitions.py: not as the sources say: {', '.join(stale)}" if stale else "docs: what is generated is as the sources say")
