@@ -1,0 +1,9 @@
+pub mod Bools
+pub mod BytesLemmas
+pub mod DigitsLemmas
+pub mod FeedingLemmas
+pub mod GrammarsLemmas
+pub mod LexersLemmas
+pub mod LinesLemmas
+pub mod PrintingLemmas
+pub mod TokensLeft

@@ -1,0 +1,9 @@
+pub mod Bytes
+pub mod Digits
+pub mod Feeding
+pub mod Grammars
+pub mod Lexers
+pub mod Lines
+pub mod Outcomes
+pub mod Printing
+pub mod Words
