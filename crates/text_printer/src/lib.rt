@@ -60,8 +60,8 @@ pub fn is_negative(number: i128) -> bool
     number < 0
 }
 
-// A `-` where the number is negative.
-fn put_minus(alloc: Global, text: &mut Text, number: i128) -> Result<(), Memory>
+/// A `-` where the number is negative.
+pub fn put_minus(alloc: Global, text: &mut Text, number: i128) -> Result<(), Memory>
     ensures { OnOk result (text.new ≡ text.old ++ minus_word number) }
 {
     if is_negative(number) {
