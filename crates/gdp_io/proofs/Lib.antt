@@ -1,3 +1,4 @@
 mod Taken
 mod Written
 mod Filed
+mod Opened

@@ -25,7 +25,7 @@ abbrev pub bytes_at : List File → Option ℕ → List ℕ
 bytes_at files None = []
 bytes_at files (Some index) = bytes_of (slice_get files index)
 
--- the contents behind each name, all of which are told
+-- the contents behind each name, all of which are revealed
 abbrev pub contents_of : Folder → Contents
 contents_of folder name = Some (behind folder.files.items name)
 

@@ -1,7 +1,7 @@
 -- What a sink holds, and what a write adds to it.
 use Rattle.std.specs.Prelude.{◌≡◌, ℕ, ◌≤◌, List, ◌++◌, length, take, Option, Some, None}
 
--- the bytes written grow by these; whether they are told stays as it was
+-- the bytes written grow by these; whether they are revealed stays as it was
 abbrev pub grown : Option (List ℕ) → List ℕ → Option (List ℕ)
 grown None bytes = None
 grown (Some written) bytes = Some (written ++ bytes)

@@ -1,9 +1,10 @@
 //! The forms in memory, with calls that fail by their number: what tests read from and write to.
-ghost use Rattle.std.specs.Prelude.{◌≡◌, ℕ, ◌+◌, ◌-◌, ◌<◌, ◌≤◌, ◌⊎◌, ◌↔◌, ◌++◌, List, [], take, length, min, Some, None, false, IfOk, IsErr, OnOk, OnErr, IsSome, vec_len, vec_capacity};
+ghost use Rattle.std.specs.Prelude.{◌≡◌, ℕ, ◌+◌, ◌-◌, ◌<◌, ◌≤◌, ◌⊎◌, ◌↔◌, ◌++◌, List, [], take, length, min, Some, None, false, IfOk, IsErr, OnOk, OnErr, IsSome, IsTrue, vec_len, vec_capacity};
 ghost use Rattle.std.specs.Io.{ReadsAtMost};
 ghost use Rattle.gdp_io.specs.Calls.{FailsAfter, one_more};
 ghost use Rattle.gdp_io.specs.Causes.{Rose, count_after};
 ghost use Rattle.gdp_io.specs.Folder.{contents_of, IsAt, Puts};
+ghost use Rattle.gdp_io.specs.Host.{HiddenOpenings};
 ghost use Rattle.gdp_io.specs.Names.{NamesGrow, SameNames};
 ghost use Rattle.gdp_io.specs.Shelf.{SameContents, SameOpen, Reads};
 
@@ -74,6 +75,8 @@ impl Shelf for MemShelf {
 
     ghost is_open = { λ s _. IsSome s.folder.opened };
 
+    ghost is_opened = { λ s. HiddenOpenings };
+
     ghost faults = { λ s _. s.faults };
 
     fn begin(&mut self, name: &str) -> Result<(), Failed>
@@ -128,6 +131,7 @@ pub struct MemSink {
     room: usize,
     calls: Calls,
     faults: u64,
+    has_failed: bool,
     ghost takes_some: { 0 < most },
     ghost within: { vec_len bytes ≤ room },
     ghost had: { room ≤ vec_capacity bytes },
@@ -153,6 +157,7 @@ impl MemSink {
             room,
             calls,
             faults: 0,
+            has_failed: false,
         })
     }
 
@@ -171,6 +176,8 @@ impl Sink for MemSink {
 
     ghost faults = { λ s. s.faults };
 
+    ghost has_failed = { λ s. IsTrue s.has_failed };
+
     fn write(&mut self, piece: &[u8]) -> Result<usize, Failed>
         requires { 0 < length piece.now }
         ensures fails { IsErr result ↔ (FailsAfter (failing_writes self.old) (writes_made self.old) ⊎ (room_of self.old ≤ vec_len self.old.bytes)) }
@@ -180,12 +187,14 @@ impl Sink for MemSink {
         ensures bound { IfOk result (λ n. (0 < n) × (n ≤ length piece.now)) }
         ensures bytes { IfOk result (λ n. self.new.bytes.items ≡ self.old.bytes.items ++ take n piece.now) }
         ensures none { OnErr result (self.new.bytes.items ≡ self.old.bytes.items) }
+        ensures last { IsErr result ↔ IsTrue self.new.has_failed }
         ensures count { self.new.faults ≡ count_after result self.old.faults }
         ensures later { self.old.faults ≤ self.new.faults }
         ensures cause { OnErr result (Rose self.old.faults self.new.faults) }
     {
         let count = piece.len().min(self.most).min(self.room - self.bytes.len());
-        if self.calls.next_fails() || count == 0 {
+        self.has_failed = self.calls.next_fails() || count == 0;
+        if self.has_failed {
             self.faults = self.faults.saturating_add(1);
             return Err(Failed);
         }

@@ -1,8 +1,8 @@
-//! What is read from: a trait with four meanings, and the call that reads a whole text.
-ghost use Rattle.std.specs.Prelude.{◌≡◌, ℕ, ◌<◌, ◌≤◌, ◌+◌, List, length, take, IfOk, OnOk, OnErr, IsErrOf};
+//! What is read from: a trait with five meanings, and the call that reads a whole text.
+ghost use Rattle.std.specs.Prelude.{◌≡◌, ℕ, ◌<◌, ◌≤◌, ◌+◌, List, [], ◌∷◌, length, take, IfOk, OnOk, OnErr, IsErrOf};
 ghost use Rattle.std.specs.Io.{ReadsAtMost};
 ghost use Rattle.gdp_io.specs.Causes.{Rose, NoneFell};
-ghost use Rattle.gdp_io.specs.Shelf.{Contents, SameContents, SameOpen, Begins, Reads, IsBehind, IsPast};
+ghost use Rattle.gdp_io.specs.Shelf.{Contents, SameContents, SameOpen, Begins, Reads, OpensNone, OpensOne, OpensFirst, IsBehind, IsPast};
 
 use crate::texts::Text;
 use outcomes::Memory;
@@ -12,16 +12,20 @@ use std::alloc::Global;
 #[derive(Clone, Copy, Debug, PartialEq, Eq)]
 pub struct Failed;
 
-/// Something that holds contents behind names. The contents and the place may be untold.
+/// Something that holds contents behind names. The contents, the place and the names that were opened may be hidden.
 pub trait Shelf {
-    /// The contents behind each name, where they are told.
+    /// The contents behind each name, where they are revealed.
     ghost contents: { Self → Contents };
 
-    /// Whether the place is this offset in the contents of this name. Where it is untold, no name and offset is.
+    /// Whether the place is this offset in the contents of this name. Where it is hidden, no name and offset is.
     ghost is_at: { Self → List ℕ → ℕ → Type 0 };
 
     /// Which names are open.
     ghost is_open: { Self → List ℕ → Type 0 };
+
+    /// Whether these are the names that were opened so far, in order. Where they are hidden, no list is. A call of
+    /// `begin` that fails may or may not count.
+    ghost is_opened: { Self → List (List ℕ) → Type 0 };
 
     /// For each name a count of faults, which never falls.
     ghost faults: { Self → List ℕ → ℕ };
@@ -31,6 +35,8 @@ pub trait Shelf {
         ensures opens { OnOk result (is_open self.new name.now) }
         ensures begins { OnOk result (Begins (contents self.old) (is_at self.new) name.now) }
         ensures closed { OnErr result ((other : List ℕ) → is_open self.new other → ⊥) }
+        ensures opened { OnOk result (OpensOne (is_opened self.old) (is_opened self.new) name.now) }
+        ensures tried { OnErr result (OpensFirst (is_opened self.old) (is_opened self.new) (name.now ∷ [])) }
         ensures contents { SameContents (contents self.old) (contents self.new) }
         ensures later { NoneFell (faults self.old) (faults self.new) }
         ensures cause { OnErr result (Rose (faults self.old name.now) (faults self.new name.now)) };
@@ -42,6 +48,7 @@ pub trait Shelf {
         ensures bound { ReadsAtMost result into.new }
         ensures reads { IfOk result (λ n. Reads (contents self.old) (is_at self.old) (is_at self.new) (take n into.new)) }
         ensures is_open { SameOpen (is_open self.old) (is_open self.new) }
+        ensures opened { OpensNone (is_opened self.old) (is_opened self.new) }
         ensures contents { SameContents (contents self.old) (contents self.new) }
         ensures later { NoneFell (faults self.old) (faults self.new) }
         ensures cause { OnErr result ((name : List ℕ) → is_open self.old name → Rose (faults self.old name) (faults self.new name)) };
@@ -69,6 +76,10 @@ pub fn read_all<S: Shelf>(
     ensures read { IsErrOf result ReadAllError.Read → Rose (S.faults shelf.old name.now) (S.faults shelf.new name.now) }
     ensures contents { SameContents (S.contents shelf.old) (S.contents shelf.new) }
     ensures later { NoneFell (S.faults shelf.old) (S.faults shelf.new) }
+
+    // The name is opened once, and no other.
+    ensures opened { OnOk result (OpensOne (S.is_opened shelf.old) (S.is_opened shelf.new) name.now) }
+    ensures tried { OnErr result (OpensFirst (S.is_opened shelf.old) (S.is_opened shelf.new) (name.now ∷ [])) }
 {
     let mut text = Text::new(alloc);
     let mut piece = [0u8; PIECE];

@@ -2,6 +2,7 @@
 ghost use Rattle.std.specs.Prelude.{◌≡◌, ℕ, ◌<◌, ◌≤◌, ◌||◌, List, [], Some, None, Ok, length, false, IfOk, IsSome, OnOk, OnErr, ⊤};
 ghost use Rattle.std.specs.Str.{bytes_eq};
 ghost use Rattle.gdp_io.specs.Folder.{contents_of, IsAt, Puts};
+ghost use Rattle.gdp_io.specs.Host.{HiddenOpenings};
 ghost use Rattle.gdp_io.specs.Names.{NamesGrow, SameNames};
 ghost use Rattle.gdp_io.specs.Shelf.{SameContents};
 
@@ -57,6 +58,8 @@ impl Shelf for SureShelf {
 
     ghost is_open = { λ s _. ⊤ };
 
+    ghost is_opened = { λ s. HiddenOpenings };
+
     ghost faults = { λ s _. 0 };
 
     fn begin(&mut self, name: &str) -> Result<(), Failed> {
@@ -86,6 +89,8 @@ impl Sink for SureSink {
     ghost written = { λ s. None };
 
     ghost faults = { λ s. 0 };
+
+    ghost has_failed = { λ s. ⊥ };
 
     fn write(&mut self, piece: &[u8]) -> Result<usize, Failed>
         ensures { result ≡ Ok (length piece.now) }

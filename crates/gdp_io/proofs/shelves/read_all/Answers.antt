@@ -1,5 +1,6 @@
 use Rattle.std.proofs.Common.{rules, arith, ◌≡◌, ◌≤◌, ◌++◌, length, take, ap, subst, sym}
 use Rattle.std.proofs.lemmas.List.{length-take, take-append-le, length-take-le, length-append}
+use Rattle.gdp_io.proofs.Opened.{one_is_first}
 use Rattle.gdp_io.proofs.Taken.{SoFar, goes_on, ends, past}
 use Rattle.gdp_io.proofs.shelves.read_all.Goals as goal
 
@@ -25,7 +26,20 @@ pieces-preserved g c =
       is_open = search rules;
       contents = search rules;
       later = search rules;
+      opened = search rules;
       so_far = subst (SoFar (g.S.Shelf.contents c.args.shelf.now) (g.S.Shelf.is_at c.read.new.self) c.args.name.now) (sym appended)
           (goes_on _ _ (g.S.Shelf.is_at c.pieces.shelf) (g.S.Shelf.is_at c.read.new.self) _ _ _
           c.pieces.invariant.contents c.pieces.invariant.so_far c.in-Ok-read.ensures.reads);
     }
+
+pub returns-in-Err-read-clause-tried : goal.returns-in-Err-read-clause-tried
+returns-in-Err-read-clause-tried g c =
+    one_is_first _ (g.S.Shelf.is_opened c.pieces.shelf) (g.S.Shelf.is_opened c.read.new.self) _ c.pieces.invariant.opened c.read.ensures.opened
+
+pub returns-then-count-left-clause-tried : goal.returns-then-count-left-clause-tried
+returns-then-count-left-clause-tried g c =
+    one_is_first _ (g.S.Shelf.is_opened c.pieces.shelf) (g.S.Shelf.is_opened c.read.new.self) _ c.pieces.invariant.opened c.read.ensures.opened
+
+pub returns-in-Err-append-clause-tried : goal.returns-in-Err-append-clause-tried
+returns-in-Err-append-clause-tried g c =
+    one_is_first _ (g.S.Shelf.is_opened c.pieces.shelf) (g.S.Shelf.is_opened c.read.new.self) _ c.pieces.invariant.opened c.read.ensures.opened

@@ -6,5 +6,5 @@ pub pieces-preserved : goal.pieces-preserved
 pieces-preserved g c = record {
   within = search rules;
   so_far = goes_on _ _ _ c.args.text.now c.pieces.at c.in-Ok.count c.pieces.invariant.so_far c.in-Ok.ensures.bytes;
-  later = search rules;
+  count = search rules;
 }
