@@ -19,6 +19,9 @@ from cases import CLOSED, FULL, GONE, cases  # noqa: E402
 
 ROOT = pathlib.Path(__file__).resolve().parent.parent
 BUILT = ROOT / "crates" / "gdp_cli" / "out"
+LAUNCHER = str(ROOT / "gdp")
+# What the launcher answers by itself, where it is the only word.
+ITS_OWN = {"--help": b"usage: gdp test MODEL POINT", "--version": b"Datemound, commit "}
 SECONDS = 120
 
 
@@ -109,22 +112,39 @@ def run(program, case):
         return wrong + [f"the file {name!r} is not as it was" for name in changed_files(case.files, folder)]
 
 
+def ask_launcher(word):
+    """Calls the launcher with a word that it answers by itself, and gives what differs."""
+    ran = subprocess.run([LAUNCHER, word], stdin=subprocess.DEVNULL, capture_output=True, check=False)
+    is_right = ran.returncode == 0 and ran.stdout.startswith(ITS_OWN[word]) and not ran.stderr
+    return [] if is_right else [f"status {ran.returncode}, output {ran.stdout!r:.200}, error {ran.stderr!r:.200}"]
+
+
+def rows(program, table):
+    """Gives the name of each row for the program, and a call that says what differs.
+
+    The launcher hands everything through but what it answers by itself, so the rows that take long are left to the program.
+    """
+    if program == LAUNCHER:
+        table = [case for case in table if not case.is_long and case.words not in [[word] for word in ITS_OWN]]
+        for word in ITS_OWN:
+            yield f"the launcher's own: {word}", lambda word=word: ask_launcher(word)
+    for case in table:
+        yield case.name, lambda case=case: run(program, case)
+
+
 def main(named):
     programs = [os.path.abspath(name) for name in named]
     if not programs:
         both = [BUILT / "gdp_cli", BUILT / "gdp_cli.by-rattle"]
-        programs = [str(path) for path in both if path.exists()] + [str(ROOT / "gdp")]
+        programs = [str(path) for path in both if path.exists()] + [LAUNCHER]
     table = cases(ROOT)
     passed = failed = 0
     for program in programs:
-        for case in table:
-            # The launcher hands everything through, so the rows that take long are left to the program.
-            if program == str(ROOT / "gdp") and case.is_long:
-                continue
-            wrong = run(program, case)
+        for name, differs in rows(program, table):
+            wrong = differs()
             if wrong:
                 failed += 1
-                print(f"end to end: {os.path.relpath(program, ROOT)}: {case.name}: {'; '.join(wrong)}")
+                print(f"end to end: {os.path.relpath(program, ROOT)}: {name}: {'; '.join(wrong)}")
             else:
                 passed += 1
     print(f"{passed} passed, {failed} failed")
