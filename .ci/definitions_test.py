@@ -2,9 +2,11 @@
 """Tests of definitions.py, on a small tree of two crates: what `run` rests on, and what a contract names."""
 
 import pathlib
+import sys
 import tempfile
 
-import definitions
+sys.dont_write_bytecode = True
+import definitions  # noqa: E402
 
 FILES = {
     "crates.txt": "low:\nhigh: low\n",
