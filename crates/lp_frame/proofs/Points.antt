@@ -1,7 +1,7 @@
 -- Force and standard form have the same points and the same goal.
 use Rattle.std.proofs.Common.{◌≡◌, ◌<◌, ◌≤◌, ℕ, Bool, true, false, ◌&&◌, List, [], ◌∷◌, length, map, ℤ, pos, ◌*ℤ◌, ◌≤ℤ◌, nat_le, All, arith, refl, sym, ◌∙◌, subst}
 use Rattle.std.proofs.lemmas.Bool.Decides.{nat_tests}
-use Rattle.std.proofs.lemmas.List.{length-map}
+use Rattle.std.proofs.lemmas.List.{length-map, get_or_default}
 use Rattle.std.proofs.lemmas.List.Elements.{All-nil, All-cons, All-head, All-tail}
 use Rattle.std.specs.List.{list_all}
 use Rattle.int_linear.specs.Sums.{at}
@@ -120,8 +120,8 @@ standard_is_standard force b =
     (both (a && f) d (both a f few (few_columns force b)) (split_are_rows force.cols force.rows (good_rows force b)))
     (split_are_terms force.cols force.goal (good_goal force b))
 
--- the lifted point as a list keeps rows and goal
-rows_same : (n : ℕ) (rows : List AtMost) (over : ℤ) (v w : ℕ → ℤ) → list_all (is_row n) rows ≡ true → ((j : ℕ) → j < n → v j ≡ w j) → All (HoldsAt over v) rows → All (HoldsAt over w) rows
+-- rows hold at equal numbers
+pub rows_same : (n : ℕ) (rows : List AtMost) (over : ℤ) (v w : ℕ → ℤ) → list_all (is_row n) rows ≡ true → ((j : ℕ) → j < n → v j ≡ w j) → All (HoldsAt over v) rows → All (HoldsAt over w) rows
 rows_same n [] over v w b same h = All-nil (HoldsAt over w)
 rows_same n (row ∷ rows) over v w b same h =
     let good : is_row n row ≡ true = first (is_row n row) (list_all (is_row n) rows) b in
@@ -130,9 +130,14 @@ rows_same n (row ∷ rows) over v w b same h =
     (subst (λ z. z ≤ℤ (row.bound *ℤ over)) (dot_same n row.terms v w below same) (All-head (HoldsAt over v) row rows h))
     (rows_same n rows over v w (second (is_row n row) (list_all (is_row n) rows) b) same (All-tail (HoldsAt over v) row rows h))
 
+-- numbers that are not negative at each place, as a list
+pub all_signs : (n : ℕ) (xs : List ℤ) → length xs ≡ n → ((k : ℕ) → k < n → pos 0 ≤ℤ at xs k) → All (λ x. pos 0 ≤ℤ x) xs
+all_signs n xs e h = λ k d p. subst (λ z. pos 0 ≤ℤ z) (get_or_default xs k (pos 0) d p) (h k (subst (λ m. k < m) e p))
+
+-- the lifted point as a list keeps rows and goal
 pub keeps_point : (force : Force) (split point : PointValue) → is_bounded force ≡ true → IsLifted force.cols split point → KeepsPoint force split point
 keeps_point force split point b h =
-    let back : (j : ℕ) → j < length force.cols → lifted force.cols (at split.nums) j ≡ at point.nums j = λ j l. sym (h.each j l) in
+    let back : (j : ℕ) → j < length force.cols → lifted force.cols (at split.nums) j ≡ at point.nums j = λ j l. sym (h.nums.each j l) in
     record {
       stays = λ p.
           let at_lifted = lifted_point force split.over (at split.nums) p in

@@ -1,5 +1,5 @@
 -- Splitting columns: a free column becomes a plus and a minus column side by side, the others stay one column.
-use Rattle.std.specs.Prelude.{◌≡◌, ◌<◌, ℕ, zero, suc, ◌+◌, List, [], ◌∷◌, ◌++◌, length, slice_index_or, ℤ, neg_ℤ, ◌-ℤ◌}
+use Rattle.std.specs.Prelude.{◌≡◌, ◌≤◌, ◌<◌, ℕ, zero, suc, ◌+◌, List, [], ◌∷◌, ◌++◌, length, slice_index_or, ℤ, neg_ℤ, ◌-ℤ◌}
 use Rattle.int_linear.specs.Sums.{at}
 use Rattle.lp_rows.specs.declared.columns.Col.{Col}
 use Rattle.lp_rows.specs.declared.columns.Sign.{Sign}
@@ -45,6 +45,12 @@ lifted cols numbers j = joined (sign_at cols j) numbers (place cols j)
 pub record ArePlaces (cols : List Col) (places : List ℕ) : Type 0 where
   pub count : length places ≡ length cols
   pub each : (j : ℕ) → j < length cols → slice_index_or places j 0 ≡ place cols j
+
+-- split column k is one of those that column j becomes
+pub record IsPartOf (cols : List Col) (k j : ℕ) : Type 0 where
+  pub within : j < length cols
+  pub from : place cols j ≤ k
+  pub before : k < place cols j + width_of (sign_at cols j)
 
 -- the columns' numbers as a list, from those of the split columns
 pub record AreLifted (cols : List Col) (split nums : List ℤ) : Type 0 where

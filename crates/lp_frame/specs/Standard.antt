@@ -8,7 +8,7 @@ use Rattle.lp_rows.specs.declared.columns.Col.{Col}
 use Rattle.lp_frame.specs.declared.force.AtMost.{AtMost}
 use Rattle.lp_frame.specs.declared.force.Force.{Force}
 use Rattle.lp_frame.specs.Force.{HoldsAt, IsForcePoint, is_row, are_terms}
-use Rattle.lp_frame.specs.Split.{place, split_terms, lifted}
+use Rattle.lp_frame.specs.Split.{place, split_terms, lifted, AreLifted}
 
 -- a standard form: how many columns, its at-most rows, and its goal, which is to be minimised
 pub record Standard : Type 0 where
@@ -55,8 +55,7 @@ pub record SamePoints (force : Force) (form : Standard) : Type 0 where
 -- the point that a point over the split columns lifts to
 pub record IsLifted (cols : List Col) (split point : PointValue) : Type 0 where
   pub over : point.over ≡ split.over
-  pub count : length point.nums ≡ length cols
-  pub each : (j : ℕ) → j < length cols → at point.nums j ≡ lifted cols (at split.nums) j
+  pub nums : AreLifted cols split.nums point.nums
 
 -- the lifted point is a point of the force wherever the split one is of the standard form, with the same goal
 pub record KeepsPoint (force : Force) (split point : PointValue) : Type 0 where

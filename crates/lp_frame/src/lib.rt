@@ -13,6 +13,6 @@ pub mod sizes;
 
 pub use force::{AtMost, AtMostList, Force};
 pub use form::{StandardForm, standard};
-pub use lifting::lift;
+pub use lifting::{column_of, lift, lift_ray};
 pub use mults::Mults;
 pub use sizes::bounded;

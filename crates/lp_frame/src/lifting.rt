@@ -1,14 +1,14 @@
-//! From a point over the split columns back to a point over the columns.
+//! From the split columns back to the columns: a point, a ray, and a single column.
 
-ghost use Rattle.std.specs.Prelude.{◌≡◌, ◌≤◌, ◌+◌, true, length, pos, ◌≤ℤ◌, All, IfOk};
+ghost use Rattle.std.specs.Prelude.{◌≡◌, ◌≤◌, ◌<◌, ◌+◌, true, length, pos, ◌≤ℤ◌, All, IfOk};
 ghost use Rattle.int_linear.specs.Sums.{at};
-ghost use Rattle.lp_frame.specs.Split.{place, width_of, joined, AreLifted};
+ghost use Rattle.lp_frame.specs.Split.{place, width_of, joined, AreLifted, IsPartOf};
 ghost use Rattle.lp_frame.specs.Force.{is_bounded};
 ghost use Rattle.lp_frame.specs.Standard.{IsLifted, KeepsPoint};
 
 use crate::force::Force;
 use crate::sizes::width;
-use lp_rows::{Col, Point, Sign};
+use lp_rows::{Col, Nums, Point, Sign};
 use outcomes::Memory;
 use std::alloc::Global;
 
@@ -25,6 +25,33 @@ pub fn lift(alloc: Global, force: &Force, split: &Point) -> Result<Point, Memory
         return Err(Memory);
     };
     Ok(point)
+}
+
+/// The ray over the columns, by the same differences. The split ray's numbers are not negative, so no difference can be
+/// wide.
+pub fn lift_ray(alloc: Global, force: &Force, split: &Nums) -> Result<Nums, Memory>
+    requires count { length split.now ≡ place force.now.cols (length force.now.cols) }
+    requires signs { All (λ n. pos 0 ≤ℤ n) split.now }
+    ensures { IfOk result (AreLifted force.now.cols split.now) }
+{
+    let nums = lifted_nums(alloc, force.cols.as_slice(), split.as_slice())?;
+    Ok(Nums::from_vec(nums))
+}
+
+/// The column that became this split column.
+pub fn column_of(cols: &[Col], split: usize) -> usize
+    requires { split < place cols.now (length cols.now) }
+    ensures { IsPartOf cols.now split result }
+{
+    let mut left = split;
+    for j in 0..cols.len() {
+        let columns = width(cols[j].sign);
+        if left < columns {
+            return j;
+        }
+        left -= columns;
+    }
+    cols.len()
 }
 
 fn lifted_nums(alloc: Global, cols: &[Col], split: &[i128]) -> Result<Vec<i128>, Memory>
