@@ -1,9 +1,10 @@
 -- The tableau as data. Its columns are, in this order: the structural ones, a slack for each row, the artificial,
 -- the right side and the goal's scale. Its rows are one for each row of the standard form, and last the goal row.
-use Rattle.std.specs.Prelude.{◌≡◌, ◌<◌, ◌≤◌, ◌+◌, ◌==◌, ℕ, ℤ, pos, negsuc, ◌<ℤ◌, Bool, List, length, slice_index_or, int_lt, if◌then◌else◌}
+use Rattle.std.specs.Prelude.{◌≡◌, ◌<◌, ◌≤◌, ◌+◌, ◌/◌, ◌==◌, ℕ, ℤ, pos, negsuc, ◌<ℤ◌, ◌≤ℤ◌, Bool, true, List, length, slice_index_or, int_lt, if◌then◌else◌}
 use Rattle.int_linear.specs.Sums.{matrix}
 use Rattle.simplex_rows.specs.Dropped.{all_without}
-use Rattle.simplex_rows.specs.Matrix.{IsRectangle}
+use Rattle.simplex_rows.specs.Matrix.{IsRectangle, IsColumnOf, AreNarrowRows}
+use Rattle.simplex_rows.specs.Index.{IsIndexOf}
 use Rattle.simplex_rows.specs.Tableau.{IsCanonical, IsTableau}
 
 -- columns is the number of structural columns, height that of the rows without the goal row; basis names the basic
@@ -46,9 +47,13 @@ basic t i = slice_index_or t.basis i 0
 abbrev pub unit : Table → ℕ → ℕ
 unit t k = if k == t.height then scale t else slack t k
 
+-- the rows as they are, or without a column that drops out
+abbrev pub kept : Bool → ℕ → (ℕ → ℕ → ℤ) → ℕ → ℕ → ℤ
+kept drops column rows = if drops then all_without column rows else rows
+
 -- the equations, of which an artificial that has left is no column any more
 abbrev pub in_force : Table → (ℕ → ℕ → ℤ) → ℕ → ℕ → ℤ
-in_force t equation = if t.dropped then all_without (artificial t) equation else equation
+in_force t equation = kept t.dropped (artificial t) equation
 
 -- t is the tableau of its basis for these equations
 abbrev pub IsTableauFor : (ℕ → ℕ → ℤ) → Table → Type 0
@@ -71,7 +76,22 @@ pub record IsSound (t : Table) : Type 0 where
   pub real : (i : ℕ) → i < t.height → basic t i < right t
   pub start : (k : ℕ) → k < t.height → right_side t k <ℤ pos 0 → IsFresh t
 
--- the same, with a spare row of the tableau's width
-pub record IsSoundWith (t : Table) (spare : List ℤ) : Type 0 where
+-- no right side is negative
+pub record IsFeasible (t : Table) : Type 0 where
+  pub each : (i : ℕ) → i < t.height → pos 0 ≤ℤ right_side t i
+
+-- how many words an index has for each column
+abbrev pub words : Table → ℕ
+words t = t.height / 64 + 1
+
+-- the same, with narrow numbers, two spare rows of the tableau's width, an index of its entries, a column that is kept,
+-- if kept names one, and whether a move was made, after which no right side is negative
+pub record IsSoundWith (t : Table) (spare written : List ℤ) (index : List ℕ) (column : List ℤ) (kept : ℕ) (started : Bool) : Type 0 where
   pub sound : IsSound t
+  pub narrow : AreNarrowRows t.rows
   pub spare_width : length spare ≡ width t
+  pub written_width : length written ≡ width t
+  pub indexed : IsIndexOf (width t) (t.height + 1) (words t) (entry t) index
+  pub column_size : length column ≡ t.height + 1
+  pub column_kept : kept < width t → IsColumnOf (t.height + 1) kept (entry t) column
+  pub feasible : started ≡ true → IsFeasible t

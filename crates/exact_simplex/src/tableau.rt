@@ -8,16 +8,16 @@ ghost use Rattle.exact_simplex.specs.Equations.{IsFirstTable, IsTableauOf};
 ghost use Rattle.exact_simplex.specs.Exchange.{IsExchanged, IsNarrowMove, IsWideAtEntry};
 ghost use Rattle.exact_simplex.specs.Run.{HasRun, HasEnded, HasTurned};
 
-use crate::bland::move_of;
+use crate::bland::{found_by, leaving_by, leaving_move};
 use crate::choosing::find_row;
-use crate::exchange::exchange_rows;
+use crate::exchange::{exchange_rows, read_unless_kept};
 use crate::first::{first_basis, first_rows};
 use crate::log::{Event, Log};
-use crate::moves::{Move, Outcome};
+use crate::moves::{Found, Move, Outcome};
 use lp_frame::StandardForm;
 use lp_rows::WideAt;
 use outcomes::Memory;
-use simplex_rows::Row;
+use simplex_rows::{Row, index_exchange, index_rows, narrow_rows};
 use std::alloc::Global;
 use std::marker::Model;
 
@@ -32,6 +32,11 @@ pub struct Tableau {
     basis: Vec<usize>,
     dropped: bool,
     spare: Row,
+    written: Row,
+    index: Vec<u64>,
+    column: Row,
+    kept: usize,
+    started: bool,
 }
 
 impl Model for Tableau {
@@ -41,7 +46,7 @@ impl Model for Tableau {
 
     ghost view = { λ t. record { columns = t.columns; height = t.height; rows = t.rows.items; basis = t.basis.items; dropped = t.dropped } };
 
-    ghost invariant = { λ t. IsSoundWith (record { columns = t.columns; height = t.height; rows = t.rows.items; basis = t.basis.items; dropped = t.dropped }) t.spare };
+    ghost invariant = { λ t. IsSoundWith (record { columns = t.columns; height = t.height; rows = t.rows.items; basis = t.basis.items; dropped = t.dropped }) t.spare t.written t.index.items t.column t.kept t.started };
 }
 
 impl Tableau {
@@ -56,6 +61,13 @@ impl Tableau {
         let rows = first_rows(alloc, standard.rows(), standard.goal(), columns)?;
         let basis = first_basis(alloc, columns, height)?;
         let spare = Row::zeros(alloc, columns + height + 3)?;
+        let written = Row::zeros(alloc, columns + height + 3)?;
+        let column = Row::zeros(alloc, height + 1)?;
+        narrow_rows(&rows);
+        let words = height / 64 + 1;
+        let width = columns + height + 3;
+        let mut index = vec![in alloc; 0u64; width * words]?;
+        index_rows(&mut index, words, &rows, width);
         Ok(Tableau {
             columns,
             height,
@@ -63,6 +75,11 @@ impl Tableau {
             basis,
             dropped: false,
             spare,
+            written,
+            index,
+            column,
+            kept: columns + height + 3,
+            started: false,
         })
     }
 
@@ -70,7 +87,51 @@ impl Tableau {
     pub fn bland(&self) -> Move
         ensures { result ≡ bland_move self.now }
     {
-        move_of(&self.rows, &self.basis, self.columns, self.height)
+        match found_by(
+            &self.rows,
+            &self.basis,
+            self.columns,
+            self.height,
+            self.started,
+        ) {
+            Found::Named(next) => next,
+            Found::Enters(enter) => leaving_move(
+                &self.rows,
+                &self.basis,
+                self.columns,
+                self.height,
+                enter,
+            ),
+        }
+    }
+
+    // The same. It keeps the entering column that it reads.
+    fn choose(&mut self) -> Move
+        ensures value { result ≡ bland_move self.old }
+        ensures same { self.new ≡ self.old }
+    {
+        match found_by(
+            &self.rows,
+            &self.basis,
+            self.columns,
+            self.height,
+            self.started,
+        ) {
+            Found::Named(next) => next,
+            Found::Enters(enter) => {
+                self.column
+                    .write_column(&self.rows, enter, &self.index, self.height / 64 + 1);
+                self.kept = enter;
+                leaving_by(
+                    &self.rows,
+                    &self.basis,
+                    &self.column,
+                    self.columns,
+                    self.height,
+                    enter,
+                )
+            }
+        }
     }
 
     /// Makes the entering column basic in the place of the leaving one, which are those that `bland` names. Where a
@@ -89,14 +150,42 @@ impl Tableau {
         let column = self.columns + self.height;
         let row = find_row(&self.basis, self.height, leave);
         let drops = leave == column;
-        match exchange_rows(&mut self.rows, &mut self.spare, row, enter, column, drops) {
+        let words = self.height / 64 + 1;
+        read_unless_kept(
+            &self.rows,
+            enter,
+            self.kept,
+            &mut self.column,
+            &self.index,
+            words,
+        );
+        self.kept = column + 3;
+        match exchange_rows(
+            &mut self.rows,
+            &mut self.spare,
+            &mut self.written,
+            &self.column,
+            row,
+            enter,
+            column,
+            drops,
+        ) {
             Err(place) => Err(WideAt::Entry {
                 row: place.0 as u32,
                 column: place.1 as u32,
             }),
             Ok(()) => {
+                index_exchange(
+                    &mut self.index,
+                    words,
+                    &self.rows[row],
+                    &self.column,
+                    enter,
+                    row,
+                );
                 self.basis[row] = enter;
                 self.dropped = either(self.dropped, drops);
+                self.started = true;
                 Ok(())
             }
         }
@@ -126,7 +215,7 @@ impl Tableau {
         ensures ended { IfSome result (λ outcome. HasEnded self.new steps.new outcome × (self.new ≡ self.old) × (steps.new ≡ steps.old) × (log.new ≡ log.old)) }
         ensures moved { IfNone result (HasTurned self.old self.new steps.old steps.new log.old log.new) }
     {
-        match self.bland() {
+        match self.choose() {
             Move::Optimal => Some(Outcome::Optimal),
             Move::Infeasible => Some(Outcome::Infeasible),
             Move::Unbounded { enter } => Some(Outcome::Unbounded { enter }),

@@ -6,5 +6,9 @@ pub mod Exchanges
 pub mod Dropped
 pub mod Feasible
 pub mod Narrow
-pub mod Factors
+pub mod FactorLemmas
 pub mod Small
+pub mod Sparse
+pub mod Merging
+pub mod Edits
+pub mod Columns

@@ -6,17 +6,23 @@
 //!
 //! Read `specs/Tableau.antt` for what a tableau is (its rows span the equations, and each is primitive, positive on
 //! its own basic column and 0 on the others'), `specs/Steps.antt` and `specs/Width.antt` for one row's step, then
-//! `row.rt` (a row, with a mark that its numbers are below 2^62) and `matrix.rt` (all rows against the pivot row).
-//! `slices.rt` has the loops, which skip zeros and leave a divisor at 1, and `steps.rt` the arithmetic of one entry.
-//! `laws.rt` has the laws: a basis has one tableau, an exchange makes that of the new basis, directions meet the
-//! equations, and a column may drop out.
+//! `specs/Sparse.antt` for a row as two lists, `row.rt` (a row, with a mark that its numbers are below 2^62; a column that
+//! was read is a row too, with a number for each row) and `matrix.rt` (the rows with an entry in the entering column
+//! against the pivot row). `index.rt` and `specs/Index.antt` have bits that say which rows may have an entry in a column.
+//! `lists.rt` has the loops over the columns in which one of two rows has an entry, `slices.rt` the greatest common divisor
+//! of a row's entries, which is left at 1, and `steps.rt` the arithmetic of one entry. `laws.rt` has the laws: a basis has one tableau, an exchange makes that of the new basis,
+//! directions meet the equations, and a column may drop out.
 #![tactic(auto)]
 
+pub mod index;
 pub mod laws;
+mod lists;
 pub mod matrix;
 pub mod row;
 mod slices;
-mod steps;
+pub mod steps;
 
-pub use matrix::{clear_rows, first_wide_entry};
+pub use index::{index_exchange, index_rows};
+pub use matrix::{clear_rows, first_wide_entry, narrow_rows};
 pub use row::Row;
+pub use steps::factors;

@@ -47,14 +47,6 @@ pub(crate) fn is_narrow_step(a: i128, b: i128, entry: i128, pivot: i128) -> bool
     }
 }
 
-/// Whether a step of this entry can be other than 0.
-#[inline(always)]
-pub(crate) fn has_step(entry: i128, pivot: i128) -> bool
-    ensures { result ≡ false → (entry ≡ pos 0) × (pivot ≡ pos 0) }
-{
-    entry != 0 || pivot != 0
-}
-
 /// `a * entry - b * pivot`.
 #[inline(always)]
 pub(crate) fn step_entry(a: i128, b: i128, entry: i128, pivot: i128) -> i128
@@ -62,14 +54,6 @@ pub(crate) fn step_entry(a: i128, b: i128, entry: i128, pivot: i128) -> i128
     ensures { result ≡ a *ℤ entry -ℤ b *ℤ pivot }
 {
     a * entry - b * pivot
-}
-
-/// Whether the number is below 2 ^ 62, and those before it are.
-#[inline(always)]
-pub(crate) fn is_small_too(small: bool, value: i128) -> bool
-    ensures { IsTrue result ↔ IsTrue small × (unsigned_abs value < 2 ^ 62) }
-{
-    small && value.unsigned_abs() < 0x4000_0000_0000_0000
 }
 
 /// Whether the number is negative.
@@ -80,10 +64,13 @@ pub(crate) fn is_negative(z: i128) -> bool
 }
 
 /// `p` and `f` over their greatest common divisor.
-pub(crate) fn factors(p: i128, f: i128) -> (i128, i128)
+pub fn factors(p: i128, f: i128) -> (i128, i128)
     requires { pos 0 <ℤ p }
     ensures { IsFactors p f result.0 result.1 }
 {
+    if p == 1 {
+        return (1, f);
+    }
     let divisor = divisor_of_both(p, f);
     (exact_quotient(p, divisor), exact_quotient(f, divisor))
 }

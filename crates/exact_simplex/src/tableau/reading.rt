@@ -1,18 +1,20 @@
 //! What is read out of a tableau at which no exchange is due.
 
-ghost use Rattle.std.specs.Prelude.{◌≡◌, ◌≤◌, ◌+◌, ◌⊎◌, ◌++◌, ◌∷◌, [], pos, neg_ℤ, ◌<ℤ◌, length, IfOk, IfErr, OnOk, if◌then◌else◌};
+ghost use Rattle.std.specs.Prelude.{true, false, ◌≡◌, ◌≤◌, ◌+◌, ◌⊎◌, ◌++◌, ◌∷◌, ◌<◌, slice_index_or, [], pos, neg_ℤ, ◌<ℤ◌, length, IfOk, IfErr, OnOk, if◌then◌else◌};
 ghost use Rattle.std.specs.Ordering.{int_eq};
 ghost use Rattle.fractions.specs.Fraction.{IsReduced};
 ghost use Rattle.fractions.specs.Width.{IsNarrow};
 ghost use Rattle.int_linear.specs.Sums.{at};
+ghost use Rattle.simplex_rows.specs.Sparse.{AreColumnsOf, AreEntriesOf};
 ghost use Rattle.lp_frame.specs.Standard.{Standard};
+ghost use Rattle.lp_rows.specs.Rows.{ascends_from, has_zero};
 ghost use Rattle.exact_simplex.specs.Bland.{bland_move};
 ghost use Rattle.exact_simplex.specs.Equations.{IsTableauOf};
 ghost use Rattle.exact_simplex.specs.ReadOut.{entries_of, multipliers_of, BoundsForm, RefutesForm};
 ghost use Rattle.exact_simplex.specs.Laws.{AttainsLevel, IsAtPoint, IsFormRay};
 ghost use Rattle.exact_simplex.specs.Rays.{IsRayOf, IsRayRefusal};
 ghost use Rattle.exact_simplex.specs.Values.{IsPointOf, IsPointRefusal};
-ghost use Rattle.exact_simplex.specs.Table.{entry, right_side, scale as scale_column};
+ghost use Rattle.exact_simplex.specs.Table.{basic, entry, right_side, scale as scale_column};
 
 use crate::choosing::{find_row, number};
 use crate::moves::{Move, ReadOut};
@@ -27,6 +29,30 @@ use simplex_rows::Row;
 use std::alloc::Global;
 
 impl Tableau {
+    /// The basic column of this row.
+    pub fn basic(&self, row: u32) -> u32
+        requires { row < self.now.height }
+        ensures { result ≡ basic self.now row }
+    {
+        self.basis[row as usize] as u32
+    }
+
+    /// The columns in which this row has an entry other than 0, ascending; the goal row is the last. It takes no memory.
+    pub fn row_columns(&self, row: u32) -> &[u32]
+        requires { row ≤ self.now.height }
+        ensures { AreColumnsOf (slice_index_or self.now.rows row []) result.now }
+    {
+        self.rows[row as usize].columns()
+    }
+
+    /// This row's entries other than 0, in the order of their columns; the goal row is the last. It takes no memory.
+    pub fn row_entries(&self, row: u32) -> &[i128]
+        requires { row ≤ self.now.height }
+        ensures { AreEntriesOf (slice_index_or self.now.rows row []) result.now }
+    {
+        self.rows[row as usize].entries()
+    }
+
     /// The scale of the goal row, by which the goal is multiplied in it.
     pub fn scale(&self) -> i128
         requires { bland_move self.now ≡ Move.Optimal }
@@ -43,7 +69,7 @@ impl Tableau {
     {
         let right = number(&self.rows, self.height, self.columns + self.height + 1);
         let scale = number(&self.rows, self.height, self.columns + self.height + 2);
-        fraction(right, scale)
+        Frac::reduced(right, scale)
     }
 
     /// The point of the basis: the structural columns over the least common denominator of the values of all rows,
@@ -81,22 +107,13 @@ impl Tableau {
     pub fn multipliers(&self, alloc: Global) -> Result<Mults, Memory>
         requires { (bland_move self.now ≡ Move.Optimal) ⊎ (bland_move self.now ≡ Move.Infeasible) }
         ensures value { IfOk result (λ multipliers. multipliers ≡ multipliers_of self.now) }
+        ensures listed { IfOk result (λ multipliers. (ascends_from 0 multipliers ≡ true) × (has_zero multipliers ≡ false)) }
         ensures optimal { IfOk result (λ multipliers. (form : Standard) → IsTableauOf form self.now → bland_move self.now ≡ Move.Optimal → BoundsForm form (right_side self.now self.now.height) (entry self.now self.now.height (scale_column self.now)) multipliers) }
         ensures infeasible { IfOk result (λ multipliers. (form : Standard) → IsTableauOf form self.now → bland_move self.now ≡ Move.Infeasible → RefutesForm form multipliers) }
     {
         let row = find_row(&self.basis, self.height, self.columns + self.height);
         slack_entries(alloc, &self.rows[row], self.columns, self.height)
     }
-}
-
-// The fraction of a narrow number over a positive narrow one.
-fn fraction(num: i128, den: i128) -> Frac
-    requires num { IsNarrow num }
-    requires den { IsNarrow den }
-    requires positive { pos 0 <ℤ den }
-    ensures { IsReduced num den result }
-{
-    Frac::new(num, den).unwrap()
 }
 
 // Minus the entries in the slack columns, without zeros.

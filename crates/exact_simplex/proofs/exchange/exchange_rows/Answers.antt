@@ -4,7 +4,7 @@ use Rattle.int_linear.specs.Sums.{at, matrix}
 use Rattle.simplex_rows.specs.Dropped.{without}
 use Rattle.simplex_rows.specs.Steps.{IsPivotRow}
 use Rattle.simplex_rows.specs.Matrix.{AreNarrow, IsFirstWide, AreKept, AreCleared}
-use Rattle.exact_simplex.specs.Exchange.{kept}
+use Rattle.exact_simplex.specs.Table.{kept}
 use Rattle.exact_simplex.proofs.Pivots.{pivot_same, narrows_pivot, first_wide_pivot, narrow_rows, first_wide_rows, kept_else, kept_rows, kept_at, exchange_by}
 use Rattle.exact_simplex.proofs.exchange.exchange_rows.Goals as goal
 
@@ -25,17 +25,17 @@ returns-in-Some-clause-wide c =
     let rows = matrix c.args.rows.now in
     let size : length c.write_kept_pivot.new.spare ≡ length c.args.spare.now = c.write_kept_pivot.ensures.len in
     let pivot : IsPivotRow (length c.args.spare.now) c.args.enter (kept c.args.drops c.args.column (matrix c.args.rows.now) c.args.row) (at c.write_kept_pivot.new.spare) =
-    pivot_is n c.args.drops c.args.column c.args.enter c.args.row c.args.rows.now c.index-rows-row.result (at c.write_kept_pivot.new.spare) c.requires.row (c.requires.shape.each c.args.row c.requires.row) c.write_kept_pivot.ensures.pivot in
+    pivot_is n c.args.drops c.args.column c.args.enter c.args.row c.args.rows.now c.index-rows-row.result (at c.write_kept_pivot.new.spare) c.requires.ready.row (c.requires.ready.shape.each c.args.row c.requires.ready.row) c.write_kept_pivot.ensures.pivot in
     let same : (i : ℕ) → i < length c.args.rows.now → i ≢ c.args.row → (j : ℕ) → matrix c.args.rows.now i j ≡ kept c.args.drops c.args.column (matrix c.args.rows.now) i j =
-    λ i l d j. sym (kept_else c.args.drops c.args.column rows i j (λ e. (c.requires.zeros e).each i l d)) in
+    λ i l d j. sym (kept_else c.args.drops c.args.column rows i j (λ e. (c.requires.ready.zeros e).each i l d)) in
     let wide : IsFirstWide (length c.args.spare.now) (length c.args.rows.now) c.args.enter c.args.row (matrix c.args.rows.now) (at c.write_kept_pivot.new.spare) c.in-Some.place.0 c.in-Some.place.1 =
     subst (λ k. IsFirstWide k (length c.args.rows.now) c.args.enter c.args.row (matrix c.args.rows.now) (at c.write_kept_pivot.new.spare) c.in-Some.place.0 c.in-Some.place.1) size c.in-Some.ensures in
     record {
       row_within = wide.within;
       column_within = wide.wide.within;
       each = λ other x.
-          first_wide_pivot n c.args.enter c.requires.within (at c.write_kept_pivot.new.spare) other
-          (pivot_same n c.args.enter (kept c.args.drops c.args.column rows c.args.row) (at c.write_kept_pivot.new.spare) other c.requires.within pivot x)
+          first_wide_pivot n c.args.enter c.requires.ready.within (at c.write_kept_pivot.new.spare) other
+          (pivot_same n c.args.enter (kept c.args.drops c.args.column rows c.args.row) (at c.write_kept_pivot.new.spare) other c.requires.ready.within pivot x)
           r c.args.row (kept c.args.drops c.args.column rows) c.in-Some.place.0 c.in-Some.place.1
           (first_wide_rows n c.args.enter c.args.row (at c.write_kept_pivot.new.spare) rows (kept c.args.drops c.args.column rows) r c.in-Some.place.0 c.in-Some.place.1 same wide);
     }
@@ -47,11 +47,11 @@ clear_rows-requires-clause-kept c =
     let rows = matrix c.args.rows.now in
     let size : length c.write_kept_pivot.new.spare ≡ length c.args.spare.now = c.write_kept_pivot.ensures.len in
     let pivot : IsPivotRow (length c.args.spare.now) c.args.enter (kept c.args.drops c.args.column (matrix c.args.rows.now) c.args.row) (at c.write_kept_pivot.new.spare) =
-    pivot_is n c.args.drops c.args.column c.args.enter c.args.row c.args.rows.now c.index-rows-row.result (at c.write_kept_pivot.new.spare) c.requires.row (c.requires.shape.each c.args.row c.requires.row) c.write_kept_pivot.ensures.pivot in
+    pivot_is n c.args.drops c.args.column c.args.enter c.args.row c.args.rows.now c.index-rows-row.result (at c.write_kept_pivot.new.spare) c.requires.ready.row (c.requires.ready.shape.each c.args.row c.requires.ready.row) c.write_kept_pivot.ensures.pivot in
     let same : (i : ℕ) → i < length c.args.rows.now → i ≢ c.args.row → (j : ℕ) → kept c.args.drops c.args.column (matrix c.args.rows.now) i j ≡ matrix c.args.rows.now i j =
-    λ i l d j. kept_else c.args.drops c.args.column rows i j (λ e. (c.requires.zeros e).each i l d) in
+    λ i l d j. kept_else c.args.drops c.args.column rows i j (λ e. (c.requires.ready.zeros e).each i l d) in
     subst (λ k. AreKept k (length c.args.rows.now) c.args.row (matrix c.args.rows.now) (at c.write_kept_pivot.new.spare)) (sym size)
-    (kept_rows n r c.args.row (at c.write_kept_pivot.new.spare) (kept c.args.drops c.args.column rows) rows same (c.requires.others.each (at c.write_kept_pivot.new.spare) pivot))
+    (kept_rows n r c.args.row (at c.write_kept_pivot.new.spare) (kept c.args.drops c.args.column rows) rows same (c.requires.ready.others.each (at c.write_kept_pivot.new.spare) pivot))
 
 pub returns-clause-ok : goal.returns-clause-ok
 returns-clause-ok c =
@@ -60,14 +60,14 @@ returns-clause-ok c =
     let rows = matrix c.args.rows.now in
     let size : length c.write_kept_pivot.new.spare ≡ length c.args.spare.now = c.write_kept_pivot.ensures.len in
     let pivot : IsPivotRow (length c.args.spare.now) c.args.enter (kept c.args.drops c.args.column (matrix c.args.rows.now) c.args.row) (at c.write_kept_pivot.new.spare) =
-    pivot_is n c.args.drops c.args.column c.args.enter c.args.row c.args.rows.now c.index-rows-row.result (at c.write_kept_pivot.new.spare) c.requires.row (c.requires.shape.each c.args.row c.requires.row) c.write_kept_pivot.ensures.pivot in
+    pivot_is n c.args.drops c.args.column c.args.enter c.args.row c.args.rows.now c.index-rows-row.result (at c.write_kept_pivot.new.spare) c.requires.ready.row (c.requires.ready.shape.each c.args.row c.requires.ready.row) c.write_kept_pivot.ensures.pivot in
     let same : (i : ℕ) → i < length c.args.rows.now → i ≢ c.args.row → (j : ℕ) → kept c.args.drops c.args.column (matrix c.args.rows.now) i j ≡ matrix c.args.rows.now i j =
-    λ i l d j. kept_else c.args.drops c.args.column rows i j (λ e. (c.requires.zeros e).each i l d) in
+    λ i l d j. kept_else c.args.drops c.args.column rows i j (λ e. (c.requires.ready.zeros e).each i l d) in
     let cleared : AreCleared (length c.args.spare.now) (length c.args.rows.now) c.args.enter c.args.row (matrix c.args.rows.now) (at c.write_kept_pivot.new.spare) (matrix c.clear_rows.new.rows) =
     subst (λ k. AreCleared k (length c.args.rows.now) c.args.enter c.args.row (matrix c.args.rows.now) (at c.write_kept_pivot.new.spare) (matrix c.clear_rows.new.rows)) size c.clear_rows.ensures.cleared in
     let swapped : c.swap.new.x ≡ c.write_kept_pivot.new.spare = c.swap.ensures.x_after in
-    let long : c.args.row < length c.clear_rows.new.rows = let q = c.requires.row in omega arith in
-    exchange_by n r c.args.row c.args.enter c.args.drops c.args.column rows (at c.write_kept_pivot.new.spare) (matrix c.clear_rows.new.rows) (matrix (set c.clear_rows.new.rows c.args.row c.swap.new.x)) c.requires.row c.requires.within same pivot cleared
+    let long : c.args.row < length c.clear_rows.new.rows = let q = c.requires.ready.row in omega arith in
+    exchange_by n r c.args.row c.args.enter c.args.drops c.args.column rows (at c.write_kept_pivot.new.spare) (matrix c.clear_rows.new.rows) (matrix (set c.clear_rows.new.rows c.args.row c.swap.new.x)) c.requires.ready.row c.requires.ready.within same pivot cleared
     (λ j. ap (λ xs. at xs j) (get_or-set_same c.clear_rows.new.rows c.args.row c.swap.new.x [] long ∙ swapped))
     (λ i d j. ap (λ xs. at xs j) (get_or-set_other c.clear_rows.new.rows c.args.row i c.swap.new.x [] d))
 
@@ -78,15 +78,15 @@ returns-clause-narrow c =
     let rows = matrix c.args.rows.now in
     let size : length c.write_kept_pivot.new.spare ≡ length c.args.spare.now = c.write_kept_pivot.ensures.len in
     let pivot : IsPivotRow (length c.args.spare.now) c.args.enter (kept c.args.drops c.args.column (matrix c.args.rows.now) c.args.row) (at c.write_kept_pivot.new.spare) =
-    pivot_is n c.args.drops c.args.column c.args.enter c.args.row c.args.rows.now c.index-rows-row.result (at c.write_kept_pivot.new.spare) c.requires.row (c.requires.shape.each c.args.row c.requires.row) c.write_kept_pivot.ensures.pivot in
+    pivot_is n c.args.drops c.args.column c.args.enter c.args.row c.args.rows.now c.index-rows-row.result (at c.write_kept_pivot.new.spare) c.requires.ready.row (c.requires.ready.shape.each c.args.row c.requires.ready.row) c.write_kept_pivot.ensures.pivot in
     let same : (i : ℕ) → i < length c.args.rows.now → i ≢ c.args.row → (j : ℕ) → matrix c.args.rows.now i j ≡ kept c.args.drops c.args.column (matrix c.args.rows.now) i j =
-    λ i l d j. sym (kept_else c.args.drops c.args.column rows i j (λ e. (c.requires.zeros e).each i l d)) in
+    λ i l d j. sym (kept_else c.args.drops c.args.column rows i j (λ e. (c.requires.ready.zeros e).each i l d)) in
     let narrow : AreNarrow (length c.args.spare.now) (length c.args.rows.now) c.args.enter c.args.row (matrix c.args.rows.now) (at c.write_kept_pivot.new.spare) =
     subst (λ k. AreNarrow k (length c.args.rows.now) c.args.enter c.args.row (matrix c.args.rows.now) (at c.write_kept_pivot.new.spare)) size c.in-None.ensures in
     record {
       each = λ other x.
-          narrows_pivot n c.args.enter c.requires.within (at c.write_kept_pivot.new.spare) other
-          (pivot_same n c.args.enter (kept c.args.drops c.args.column rows c.args.row) (at c.write_kept_pivot.new.spare) other c.requires.within pivot x)
+          narrows_pivot n c.args.enter c.requires.ready.within (at c.write_kept_pivot.new.spare) other
+          (pivot_same n c.args.enter (kept c.args.drops c.args.column rows c.args.row) (at c.write_kept_pivot.new.spare) other c.requires.ready.within pivot x)
           r c.args.row (kept c.args.drops c.args.column rows)
           (narrow_rows n c.args.enter c.args.row (at c.write_kept_pivot.new.spare) rows (kept c.args.drops c.args.column rows) r same narrow);
     }
@@ -94,7 +94,7 @@ returns-clause-narrow c =
 pub returns-clause-spare : goal.returns-clause-spare
 returns-clause-spare c =
     let size : length c.write_kept_pivot.new.spare ≡ length c.args.spare.now = c.write_kept_pivot.ensures.len in
-    let long : c.args.row < length c.clear_rows.new.rows = let q = c.requires.row in omega arith in
+    let long : c.args.row < length c.clear_rows.new.rows = let q = c.requires.ready.row in omega arith in
     let row : c.index-rows-row-2.result ≡ slice_index_or c.clear_rows.new.rows c.args.row [] = c.index-rows-row-2.is ∙ get_or_default c.clear_rows.new.rows c.args.row c.index-rows-row-2.result [] long in
     let taken : c.swap.new.y ≡ slice_index_or c.clear_rows.new.rows c.args.row c.index-rows-row-2.result = c.swap.ensures.y_after in
     ap length (taken ∙ get_or_default c.clear_rows.new.rows c.args.row c.index-rows-row-2.result [] long) ∙ c.clear_rows.ensures.shape.each c.args.row long ∙ size
