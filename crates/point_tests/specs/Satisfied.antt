@@ -1,10 +1,9 @@
 -- When a point satisfies a model. Nothing here knows of width or of an order of tests.
-use Rattle.std.specs.Prelude.{ℕ, ◌+◌, suc, ℤ, ◌*ℤ◌, Bool, true, false, not, ◌&&◌, List, [], ◌∷◌, Option, None, Some, ◌%◌, ◌==◌, nat_eq, nat_le, int_le, unsigned_abs, slice_index_or, if◌then◌else◌}
+use Rattle.std.specs.Prelude.{ℕ, ◌+◌, suc, ℤ, ◌*ℤ◌, Bool, true, false, not, ◌&&◌, List, [], ◌∷◌, Option, None, Some, nat_eq, nat_le, int_le, slice_index_or, if◌then◌else◌}
 use Rattle.std.specs.List.{list_all}
 use Rattle.fractions.specs.Fraction.{Fraction}
 use Rattle.int_linear.specs.Sums.{at}
-use Rattle.lp_rows.specs.declared.kinds.Kind.{Kind}
-use Rattle.lp_rows.specs.declared.kinds.Kind.TheVariants.{Real, Int}
+pub use Rattle.lp_rows.specs.Kinds.{is_of_kind, is_whole}
 use Rattle.lp_rows.specs.Holding.{holds_at}
 use Rattle.lp_rows.specs.Points.{PointValue}
 use Rattle.lp_rows.specs.Rows.{RowValue}
@@ -35,15 +34,6 @@ is_above (Some f) number over = int_le (f.num *ℤ over) (f.den *ℤ number)
 abbrev pub is_below : Option Fraction → ℤ → ℤ → Bool
 is_below None number over = true
 is_below (Some f) number over = int_le (f.den *ℤ number) (f.num *ℤ over)
-
--- the number over D is whole: D divides it
-abbrev pub is_whole : ℤ → ℤ → Bool
-is_whole number over = unsigned_abs number % unsigned_abs over == 0
-
--- the number over D is one that a variable of this kind takes
-abbrev pub is_of_kind : Kind → ℤ → ℤ → Bool
-is_of_kind Real number over = true
-is_of_kind Int number over = is_whole number over
 
 -- the variable takes the number over D: it is within the bounds and of the kind
 abbrev pub takes : VarValue → ℤ → ℤ → Bool
