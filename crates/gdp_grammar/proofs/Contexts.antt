@@ -1,6 +1,6 @@
 -- What stands before and around a block whose lines are read again.
 use Rattle.std.proofs.Common.{◌≡◌, ◌+◌, ◌≤◌, true, List, [], ◌∷◌, ◌++◌, length, map, take, Option, Some, None, refl, arith}
-use Rattle.model_tree.specs.Building.{BuildingValue, OpenBlock, OpenDisjunction}
+use Rattle.model_builder.specs.Building.{BuildingValue, OpenBlock, OpenDisjunction}
 use Rattle.model_tree.specs.Names.{are_names}
 use Rattle.model_tree.specs.Sound.{are_last_of}
 use Rattle.model_tree.specs.Tree.{DisjunctHead}

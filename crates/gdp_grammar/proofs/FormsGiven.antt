@@ -14,13 +14,15 @@ use Rattle.lp_rows.specs.Rows.{RowValue, is_storable, ascends_from, has_zero, ar
 use Rattle.model_tree.specs.declared.errors.BuildError.{BuildError}
 use Rattle.model_tree.specs.declared.errors.BuildError.TheVariants.{Limit}
 use Rattle.model_tree.specs.Bounds.{is_bound}
-use Rattle.model_tree.specs.Building.{BuildingValue, is_at_root, is_taken, are_ids_below, refusal_of_terms, rows_so_far}
+use Rattle.model_builder.specs.Building.{BuildingValue, is_at_root, is_taken, rows_so_far}
+use Rattle.model_tree.specs.Scaling.{are_ids_below, refusal_of_terms}
 use Rattle.model_tree.specs.Names.{is_name, are_names}
-use Rattle.model_tree.specs.Nesting.{goal_outcome, refusal_of_scale}
+use Rattle.model_builder.specs.Nesting.{goal_outcome}
+use Rattle.model_tree.specs.Scaling.{refusal_of_scale}
 use Rattle.model_tree.specs.Scaling.{divides_all, is_multiple}
 use Rattle.model_tree.specs.Values.{GoalValue}
 use Rattle.model_tree.specs.Variables.{VarValue}
-use Rattle.model_tree.proofs.Multiples.{divides}
+use Rattle.model_tree.proofs.ScalingLemmas.{divides}
 use Rattle.std.specs.Int.{◌∣◌, IsGcd}
 use Rattle.std.proofs.lemmas.Nat.Gcd.{le_of_dvd}
 use Rattle.std.proofs.Math.Nat.{one-dvd, pos_of_dvd_of_pos}
@@ -82,7 +84,7 @@ ids_over n scale (t ∷ ts) = ap (λ b. nat_lt t.0 n && b) (ids_over n scale ts)
 
 -- none of the causes of terms holds
 pub terms_pass : (n s : ℕ) (ts : List (ℕ × ℤ)) (z : ℤ) (below : Option BuildError) → AreWhole s ts z → ids_below n ts ≡ true
-    → refusal_of_terms n (terms_over (pos s) ts) (over (pos s) z) below ≡ below
+    → refusal_of_terms (are_ids_below n (terms_over (pos s) ts)) (terms_over (pos s) ts) (over (pos s) z) below ≡ below
 terms_pass n s ts z below w ids =
     rw (
       never_twice 0 (terms_over (pos s) ts) (ascends_over (pos s) 0 ts ∙ w.ascends),

@@ -4,8 +4,8 @@ use Rattle.std.proofs.lemmas.List.{append-nil}
 use Rattle.lp_rows.specs.Rows.{RowValue}
 use Rattle.propositions.specs.Tree.{PropTree}
 use Rattle.model_tree.specs.declared.tree.Mode.{Mode}
-use Rattle.model_tree.specs.Building.{OpenBlock, OpenDisjunction, empty_block, closed_block}
-use Rattle.model_tree.specs.Nesting.{closed_disjunct, closed_disjunction}
+use Rattle.model_builder.specs.Building.{OpenBlock, OpenDisjunction, empty_block, closed_block}
+use Rattle.model_builder.specs.Nesting.{closed_disjunct, closed_disjunction}
 use Rattle.model_tree.specs.View.{disjuncts, disjunctions}
 use Rattle.gdp_grammar.specs.Nested.{row_marks, prop_marks, disjunction_marks, disjunct_marks, IsBlockOf}
 use Rattle.gdp_grammar.specs.Stacks.{open_after, open_before, first_of, same_owner, owned}

@@ -13,7 +13,7 @@ use Rattle.lp_rows.specs.declared.kinds.Sense.{Sense}
 use Rattle.lp_rows.specs.declared.kinds.Sense.TheVariants.{Min, Max}
 use Rattle.model_tree.specs.declared.tree.Mode.{Mode}
 use Rattle.model_tree.specs.declared.tree.Mode.TheVariants as mode
-use Rattle.model_tree.specs.Building.{BuildingValue}
+use Rattle.model_builder.specs.Building.{BuildingValue}
 use Rattle.model_tree.specs.Names.{begins_name, continues_name, is_digit, is_name, has_name, has_name_shape, reserved_words}
 use Rattle.model_tree.specs.Variables.{VarValue}
 use Rattle.gdp_grammar.specs.declared.cause.ReadCause.{ReadCause}

@@ -12,7 +12,7 @@ use Rattle.fractions.specs.Fraction.{Fraction, IsReduced, fraction_fits}
 use Rattle.fractions.specs.Width.{fits}
 use Rattle.fractions.proofs.Reduction.{reduced_over, reduced_same}
 use Rattle.model_tree.specs.Scaling.{is_multiple}
-use Rattle.model_tree.proofs.Multiples.{divides, is_divided}
+use Rattle.model_tree.proofs.ScalingLemmas.{divides, is_divided}
 use Rattle.gdp_grammar.specs.Lowest.{greatest_divisor, common_divisor, signed_as, over}
 use Rattle.int_linear.proofs.Ring.{neg_mul}
 use Rattle.gdp_grammar.proofs.Cutting.{told}

@@ -12,10 +12,12 @@ use Rattle.lp_rows.specs.Rows.{RowValue}
 use Rattle.model_tree.specs.declared.bounds.Bound.{Bound}
 use Rattle.model_tree.specs.declared.errors.BuildError.{BuildError}
 use Rattle.model_tree.specs.declared.errors.BuildError.TheVariants as refusal
-use Rattle.model_tree.specs.Building.{BuildingValue, OpenBlock, OpenDisjunction, empty_block, is_at_root, is_taken, refusal_of_var, refusal_of_row, stored_row, built_model}
+use Rattle.model_builder.specs.Building.{BuildingValue, OpenBlock, OpenDisjunction, empty_block, is_at_root, is_taken, refusal_of_var, refusal_of_row, built_model}
+use Rattle.model_tree.specs.Scaling.{stored_row}
 use Rattle.model_tree.specs.Sound.{is_empty}
-use Rattle.model_tree.specs.Nesting.{refusal_of_boolean, refusal_of_goal, stored_goal, refusal_of_disjunct, with_disjunct, open_disjunct_in, closed_disjunct, closed_disjunction, close_disjunct, close_opened}
-use Rattle.model_tree.specs.Props.{refusal_of_prop}
+use Rattle.model_builder.specs.Nesting.{refusal_of_boolean, refusal_of_goal, refusal_of_disjunct, with_disjunct, open_disjunct_in, closed_disjunct, closed_disjunction, close_disjunct, close_opened}
+use Rattle.model_tree.specs.Scaling.{stored_goal}
+use Rattle.model_builder.specs.Props.{refusal_of_prop}
 use Rattle.model_tree.specs.Values.{ModelTree}
 use Rattle.gdp_grammar.specs.declared.cause.ReadCause.{ReadCause}
 use Rattle.gdp_grammar.specs.declared.cause.ReadCause.TheVariants as cause

@@ -6,11 +6,11 @@ use Rattle.std.proofs.lemmas.Bool.Decides.{nat_tests}
 use Rattle.propositions.specs.Sizes.{node_count_of, most_arguments_of, greatest_number_of, has_empty_list_of}
 use Rattle.propositions.specs.Tree.{PropTree}
 use Rattle.propositions.specs.Truth.{are_ids_below}
-use Rattle.model_tree.specs.Building.{BuildingValue, OpenBlock, OpenDisjunction}
+use Rattle.model_builder.specs.Building.{BuildingValue, OpenBlock, OpenDisjunction}
 use Rattle.model_tree.specs.Earlier.{name_only_first}
 use Rattle.model_tree.specs.Names.{has_name, is_name, are_names}
 use Rattle.model_tree.specs.PropLimits.{has_small_numbers, is_shallow_prop, has_fair_lists, is_prop_sound}
-use Rattle.model_tree.specs.Props.{nodes_so_far, refusal_of_prop}
+use Rattle.model_builder.specs.Props.{nodes_so_far, refusal_of_prop}
 use Rattle.model_tree.specs.Sound.{are_props_sound}
 use Rattle.model_tree.specs.Tree.{nodes_of_props}
 use Rattle.model_tree.specs.Values.{GoalValue, ModelTree}

@@ -9,11 +9,11 @@ use Rattle.fractions.specs.Fraction as fraction
 use Rattle.lp_rows.specs.declared.kinds.Rel.TheVariants.{Equal}
 use Rattle.lp_rows.specs.Holding.{ids_below}
 use Rattle.lp_rows.specs.Rows.{row_refusal, is_storable}
-use Rattle.model_tree.proofs.Keeping as keeping
+use Rattle.model_tree.proofs.NamesLemmas as keeping
 use Rattle.model_tree.specs.declared.bounds.Bound.{Bound}
 use Rattle.model_tree.specs.Earlier.{names_earlier}
 use Rattle.model_tree.specs.Bounds.{is_bound, is_end_small, are_crossed, IsEndLowest, AreEndsLowest, are_bounds}
-use Rattle.model_tree.specs.Building.{BuildingValue, empty_block, new_building, is_taken, built_model}
+use Rattle.model_builder.specs.Building.{BuildingValue, empty_block, new_building, is_taken, built_model}
 use Rattle.model_tree.specs.Sound.{is_empty, IsSound, is_goal_sound, IsScaleLeast, are_last_of}
 use Rattle.model_tree.specs.Names.{has_name, is_name, are_names}
 use Rattle.model_tree.specs.Tree.{DisjunctHead, below, block}

@@ -9,9 +9,9 @@ use Rattle.std.proofs.lemmas.Bool.{cond-false}
 use Rattle.std.proofs.lemmas.Nat.Gcd.{le_of_dvd, dvd_trans}
 use Rattle.lp_rows.specs.Rows.{is_storable, ascends_from, has_zero, are_storable}
 use Rattle.model_tree.specs.Bounds.{has_small_parts}
-use Rattle.model_tree.specs.Building.{are_numbers}
+use Rattle.model_tree.specs.Scaling.{are_numbers}
 use Rattle.model_tree.specs.Scaling.{is_multiple, divides_all, all_divide, least_scale, are_positive, denominators, scale_of, scaled, scaled_terms, has_id, has_id_twice, insert_term, sorted_among, sorted_terms, stored_terms}
-use Rattle.model_tree.proofs.Multiples.{divides, is_divided, least_scale_is, least_scale_below}
+use Rattle.model_tree.proofs.ScalingLemmas.{divides, is_divided, least_scale_is, least_scale_below}
 use Rattle.gdp_grammar.specs.Canonical.{terms_over}
 use Rattle.gdp_grammar.specs.Lowest.{common_divisor, signed_as, over}
 use Rattle.gdp_grammar.specs.Numerals as numerals

@@ -8,11 +8,11 @@ use Rattle.lp_rows.specs.Holding.{ids_below}
 use Rattle.lp_rows.specs.Rows.{RowValue, row_refusal}
 use Rattle.propositions.specs.Tree.{PropTree}
 use Rattle.model_tree.specs.Earlier.{declared_by_end, name_only_first, names_earlier, disjunctions_name_earlier, disjuncts_name_earlier}
-use Rattle.model_tree.specs.Props.{nodes_so_far}
-use Rattle.model_tree.specs.Building.{BuildingValue, OpenBlock, OpenDisjunction, empty_block, rows_so_far, closed_block}
+use Rattle.model_builder.specs.Props.{nodes_so_far}
+use Rattle.model_builder.specs.Building.{BuildingValue, OpenBlock, OpenDisjunction, empty_block, rows_so_far, closed_block}
 use Rattle.model_tree.specs.Sound.{is_empty, are_rows_below, are_props_sound, is_filled, is_block_sound, are_disjunctions_sound, are_disjuncts_sound, is_shallow, are_disjunctions_shallow, are_disjuncts_shallow, are_last_of}
 use Rattle.model_tree.specs.Names.{has_name, is_name, are_names}
-use Rattle.model_tree.specs.Nesting.{closed_disjunct, closed_disjunction}
+use Rattle.model_builder.specs.Nesting.{closed_disjunct, closed_disjunction}
 use Rattle.model_tree.specs.Tree.{DisjunctHead, DisjunctionHead, BlockTree, block, Disjunctions, no_disjunctions, disjunction, Disjuncts, no_disjuncts, disjunct, row_count, row_count_below, row_count_within, nodes_of_props, node_total, node_total_below, node_total_within, below, below_disjunctions, below_disjuncts}
 use Rattle.model_tree.specs.Values.{GoalValue, ModelTree}
 use Rattle.model_tree.specs.Variables.{VarValue, BooleanValue}
@@ -31,7 +31,7 @@ use Rattle.gdp_grammar.proofs.LinesAgain.{row_form_again, disjunction_form_again
 use Rattle.gdp_grammar.proofs.LinesLead.{headed, line_lead, leads_then, leads_to, row_printed, disjunction_printed, named_printed, words_appended}
 use Rattle.gdp_grammar.proofs.PropsLead.{props_at, props_at_same, props_lead, props_printed}
 use Rattle.gdp_grammar.proofs.Rebuilt.{fit_short, terms_read, bytes_eq_swap}
-use Rattle.model_tree.proofs.Keeping.{has_append}
+use Rattle.model_tree.proofs.NamesLemmas.{has_append}
 use Rattle.std.specs.Str.{bytes_eq}
 
 -- rows that follow one another

@@ -6,9 +6,9 @@ use Rattle.lp_rows.specs.declared.kinds.Rel.{Rel}
 use Rattle.lp_rows.specs.declared.kinds.Sense.{Sense}
 use Rattle.model_tree.specs.declared.errors.BuildError.{BuildError}
 use Rattle.model_tree.specs.declared.errors.BuildError.TheVariants as refusal
-use Rattle.model_tree.specs.Building.{BuildingValue, new_building, is_at_root, is_taken, var_outcome, row_outcome, finish_outcome}
-use Rattle.model_tree.specs.Nesting.{boolean_outcome, goal_outcome, open_disjunction_outcome, open_disjunct_outcome, close_outcome}
-use Rattle.model_tree.specs.Props.{prop_outcome}
+use Rattle.model_builder.specs.Building.{BuildingValue, new_building, is_at_root, is_taken, var_outcome, row_outcome, finish_outcome}
+use Rattle.model_builder.specs.Nesting.{boolean_outcome, goal_outcome, open_disjunction_outcome, open_disjunct_outcome, close_outcome}
+use Rattle.model_builder.specs.Props.{prop_outcome}
 use Rattle.model_tree.specs.Values.{ModelTree}
 use Rattle.model_tree.specs.Variables.{VarValue}
 use Rattle.gdp_grammar.specs.declared.cause.ReadCause.{ReadCause}

@@ -2,7 +2,7 @@
 use Rattle.std.proofs.Common.{◌≡◌, ℕ, List, Bool, true, false, not, Result, Ok, Err, refl, ap, ◌∙◌}
 use Rattle.model_tree.specs.declared.errors.BuildError.{BuildError}
 use Rattle.model_tree.specs.declared.errors.BuildError.TheVariants as refusal
-use Rattle.model_tree.specs.Building.{finish_outcome}
+use Rattle.model_builder.specs.Building.{finish_outcome}
 use Rattle.model_tree.specs.Values.{ModelTree, ModelValue, model_tree}
 use Rattle.gdp_grammar.specs.declared.cause.ReadCause.{ReadCause}
 use Rattle.gdp_grammar.specs.Following.{at_line, text_gives}

@@ -7,8 +7,8 @@ use Rattle.propositions.specs.Truth.{are_ids_below}
 use Rattle.outcomes.specs.Calls.{Acts}
 use Rattle.model_tree.specs.declared.errors.BuildError.{BuildError}
 use Rattle.model_tree.specs.declared.errors.BuildError.TheVariants as refusal
-use Rattle.model_tree.specs.Building.{BuildingValue}
-use Rattle.model_tree.specs.Props.{nodes_so_far, refusal_of_prop, prop_outcome}
+use Rattle.model_builder.specs.Building.{BuildingValue}
+use Rattle.model_builder.specs.Props.{nodes_so_far, refusal_of_prop, prop_outcome}
 use Rattle.model_tree.specs.Variables.{BooleanValue}
 use Rattle.gdp_grammar.specs.declared.cause.ReadCause.{ReadCause}
 use Rattle.gdp_grammar.specs.declared.cause.ReadCause.TheVariants as cause

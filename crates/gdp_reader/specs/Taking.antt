@@ -1,6 +1,6 @@
 -- What the reader of a model text has taken, and what it answers.
 use Rattle.std.specs.Prelude.{◌≡◌, ℕ, List, Result, Ok, Err}
-use Rattle.model_tree.specs.Standing.{stands_for}
+use Rattle.model_builder.specs.Standing.{stands_for}
 use Rattle.model_tree.specs.Values.{ModelTree, ModelValue, model_tree}
 use Rattle.gdp_grammar.specs.declared.cause.ReadCause.{ReadCause}
 use Rattle.gdp_grammar.specs.Reading.{Taken}

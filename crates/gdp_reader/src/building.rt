@@ -2,13 +2,8 @@
 
 ghost use Rattle.std.specs.Prelude.{◌≡◌, ℕ, List, map, IfOk};
 ghost use Rattle.std.specs.Option.{option_map};
-ghost use Rattle.model_tree.specs.Nesting.{
-  boolean_outcome,
-  open_disjunction_outcome,
-  open_disjunct_outcome,
-  close_outcome,
-};
-ghost use Rattle.model_tree.specs.Standing.{stands_for};
+ghost use Rattle.model_builder.specs.Nesting.{boolean_outcome, open_disjunction_outcome, open_disjunct_outcome, close_outcome};
+ghost use Rattle.model_builder.specs.Standing.{stands_for};
 ghost use Rattle.gdp_grammar.specs.Reading.{
   named,
   has_twice as has_twice_in,
@@ -35,7 +30,8 @@ use gdp_lines::form::{Form, Signed, Summand};
 use gdp_lines::token::{Numeral, Tokens};
 use gdp_lines::value::{constant_value, end, signed_whole, value};
 use lp_rows::{Kind, Rel, Sense};
-use model_tree::{Bound, BuildError, Mode, ModelBuilder};
+use model_builder::ModelBuilder;
+use model_tree::{Bound, BuildError, Mode};
 use outcomes::Memory;
 use prop_reader::logic::line_prop;
 use std::alloc::Global;

@@ -19,7 +19,8 @@ use gdp_lines::form::read_form;
 use gdp_lines::line::{first_line, without_comment};
 use gdp_lines::token::Tokens;
 use gdp_lines::word::{are_words, is_blank};
-use model_tree::{Model, ModelBuilder};
+use model_builder::ModelBuilder;
+use model_tree::Model;
 use std::alloc::Global;
 
 /// What the lines so far gave.

@@ -12,7 +12,7 @@ use Rattle.model_tree.specs.Sound.{are_rows_below, are_props_sound, is_filled, i
 use Rattle.model_tree.specs.Tree.{DisjunctHead, BlockTree, block, Disjunctions, no_disjunctions, disjunction, Disjuncts, no_disjuncts, disjunct, nodes_of_props, node_total, node_total_below, node_total_within, below, below_disjunctions, below_disjuncts}
 use Rattle.model_tree.specs.Values.{ModelTree}
 use Rattle.model_tree.specs.View.{disjunction_of, disjunct_of, disjunctions_of, disjuncts_of}
-use Rattle.model_tree.proofs.Ands.{first_holds, second_holds}
+use Rattle.model_tree.proofs.Bools.{first_holds, second_holds}
 
 mutual
   pub block_counted : (y : Option ℕ) (b : BlockTree) → length (conditions_in y b) ≡ item_total b

@@ -10,7 +10,7 @@ use Rattle.model_items.specs.Items.{enforced, indicators_of, selection, each_imp
 use Rattle.point_tests.specs.Satisfied.{PointOf, vars_take, rows_hold, props_hold, true_count, mode_allows, is_off, are_disjunctions_off, are_disjuncts_off, is_satisfied, are_disjunctions_satisfied, are_disjuncts_satisfied, is_model_point}
 use Rattle.model_tree.specs.Tree.{BlockTree, block, Disjunctions, no_disjunctions, disjunction, Disjuncts, no_disjuncts, disjunct}
 use Rattle.model_tree.specs.Values.{ModelTree}
-use Rattle.model_tree.proofs.Ands.{first_holds, second_holds, both_hold}
+use Rattle.model_tree.proofs.Bools.{first_holds, second_holds, and_true}
 
 or_left : (a b : Bool) → a ≡ true → (a || b) ≡ true
 or_left true b h = refl
@@ -27,7 +27,7 @@ meets y cs = list_all (λ c. truth_of c y) cs
 meets_both : (y : ℕ → Bool) (cs ds : List PropTree) → meets y cs ≡ true → meets y ds ≡ true → meets y (cs ++ ds) ≡ true
 meets_both y [] ds h k = k
 meets_both y (c ∷ cs) ds h k =
-    both_hold (truth_of c y) (meets y (cs ++ ds)) (first_holds (truth_of c y) (meets y cs) h) (meets_both y cs ds (second_holds (truth_of c y) (meets y cs) h) k)
+    and_true (truth_of c y) (meets y (cs ++ ds)) (first_holds (truth_of c y) (meets y cs) h) (meets_both y cs ds (second_holds (truth_of c y) (meets y cs) h) k)
 
 meets_at : (y : ℕ → Bool) (cs : List PropTree) (n : ℕ) (other : PropTree) → meets y cs ≡ true → n < length cs → truth_of (slice_index_or cs n other) y ≡ true
 meets_at y [] n other h k = absurd (omega arith)
@@ -61,13 +61,13 @@ enforced_off k p y e = or_left (not (y k)) (truth_of p y) (ap not e)
 each_on : (k : ℕ) (js : Disjuncts) (y : ℕ → Bool) → y k ≡ true → are_all_true (truths_of (each_implies k js) y) ≡ true
 each_on k no_disjuncts y e = refl
 each_on k (disjunct head b js) y e =
-    both_hold (not (y head.indicator) || y k) (are_all_true (truths_of (each_implies k js) y)) (or_right (not (y head.indicator)) (y k) e) (each_on k js y e)
+    and_true (not (y head.indicator) || y k) (are_all_true (truths_of (each_implies k js) y)) (or_right (not (y head.indicator)) (y k) e) (each_on k js y e)
 
 each_off : (k : ℕ) (js : Disjuncts) (y : ℕ → Bool) → are_disjuncts_off js y ≡ true → are_all_true (truths_of (each_implies k js) y) ≡ true
 each_off k no_disjuncts y h = refl
 each_off k (disjunct head b js) y h =
     let here = first_holds (not (y head.indicator) && is_off b y) (are_disjuncts_off js y) h in
-    both_hold (not (y head.indicator) || y k) (are_all_true (truths_of (each_implies k js) y))
+    and_true (not (y head.indicator) || y k) (are_all_true (truths_of (each_implies k js) y))
     (or_left (not (y head.indicator)) (y k) (first_holds (not (y head.indicator)) (is_off b y) here))
     (each_off k js y (second_holds (not (y head.indicator) && is_off b y) (are_disjuncts_off js y) h))
 
@@ -75,25 +75,25 @@ choice_on : (under : Option ℕ) (mode : Mode) (js : Disjuncts) (y : ℕ → Boo
     → truth_of (choice under mode js) y ≡ true
 choice_on None mode js y e h = selected mode js y ∙ h
 choice_on (Some k) mode js y e h =
-    both_hold (not (y k) || truth_of (selection mode js) y) (are_all_true (truths_of (each_implies k js) y))
+    and_true (not (y k) || truth_of (selection mode js) y) (are_all_true (truths_of (each_implies k js) y))
     (or_right (not (y k)) (truth_of (selection mode js) y) (selected mode js y ∙ h)) (each_on k js y e)
 
 choice_off : (k : ℕ) (mode : Mode) (js : Disjuncts) (y : ℕ → Bool) → y k ≡ false → are_disjuncts_off js y ≡ true
     → truth_of (choice (Some k) mode js) y ≡ true
 choice_off k mode js y e h =
-    both_hold (not (y k) || truth_of (selection mode js) y) (are_all_true (truths_of (each_implies k js) y))
+    and_true (not (y k) || truth_of (selection mode js) y) (are_all_true (truths_of (each_implies k js) y))
     (or_left (not (y k)) (truth_of (selection mode js) y) (ap not e)) (each_off k js y h)
 
 props_on : (under : Option ℕ) (qs : List (PropTree × ℕ)) (y : ℕ → Bool) → props_hold qs y ≡ true → meets y (map (λ q. enforced under q.0) qs) ≡ true
 props_on under [] y h = refl
 props_on under (q ∷ qs) y h =
-    both_hold (truth_of (enforced under q.0) y) (meets y (map (λ q. enforced under q.0) qs))
+    and_true (truth_of (enforced under q.0) y) (meets y (map (λ q. enforced under q.0) qs))
     (enforced_on under q.0 y (first_holds (truth_of q.0 y) (props_hold qs y) h)) (props_on under qs y (second_holds (truth_of q.0 y) (props_hold qs y) h))
 
 props_off : (k : ℕ) (qs : List (PropTree × ℕ)) (y : ℕ → Bool) → y k ≡ false → meets y (map (λ q. enforced (Some k) q.0) qs) ≡ true
 props_off k [] y e = refl
 props_off k (q ∷ qs) y e =
-    both_hold (truth_of (enforced (Some k) q.0) y) (meets y (map (λ q. enforced (Some k) q.0) qs)) (enforced_off k q.0 y e) (props_off k qs y e)
+    and_true (truth_of (enforced (Some k) q.0) y) (meets y (map (λ q. enforced (Some k) q.0) qs)) (enforced_off k q.0 y e) (props_off k qs y e)
 
 not_true : (a : Bool) → not a ≡ true → a ≡ false
 not_true true h = sym h
@@ -109,7 +109,7 @@ mutual
   disjunctions_off no_disjunctions k y e h = refl
   disjunctions_off (disjunction head js ds) k y e h =
       let here = first_holds (are_disjuncts_off js y) (are_disjunctions_off ds y) h in
-      both_hold (truth_of (choice (Some k) head.mode js) y) (meets y (conditions_of_disjuncts js ++ conditions_of_disjunctions (Some k) ds))
+      and_true (truth_of (choice (Some k) head.mode js) y) (meets y (conditions_of_disjuncts js ++ conditions_of_disjunctions (Some k) ds))
       (choice_off k head.mode js y e here)
       (meets_both y (conditions_of_disjuncts js) (conditions_of_disjunctions (Some k) ds) (disjuncts_off js y here)
       (disjunctions_off ds k y e (second_holds (are_disjuncts_off js y) (are_disjunctions_off ds y) h)))
@@ -140,7 +140,7 @@ mutual
   disjunctions_on no_disjunctions under p e h = refl
   disjunctions_on (disjunction head js ds) under p e h =
       let here = first_holds (mode_allows head.mode (true_count js p.truths) && are_disjuncts_satisfied js p) (are_disjunctions_satisfied ds p) h in
-      both_hold (truth_of (choice under head.mode js) p.truths) (meets p.truths (conditions_of_disjuncts js ++ conditions_of_disjunctions under ds))
+      and_true (truth_of (choice under head.mode js) p.truths) (meets p.truths (conditions_of_disjuncts js ++ conditions_of_disjunctions under ds))
       (choice_on under head.mode js p.truths e (first_holds (mode_allows head.mode (true_count js p.truths)) (are_disjuncts_satisfied js p) here))
       (meets_both p.truths (conditions_of_disjuncts js) (conditions_of_disjunctions under ds)
       (disjuncts_on js p (second_holds (mode_allows head.mode (true_count js p.truths)) (are_disjuncts_satisfied js p) here))

@@ -16,7 +16,7 @@ use Rattle.model_tree.specs.PropLimits.{is_prop_sound, has_small_numbers, is_sha
 use Rattle.model_tree.specs.Sound.{are_rows_below, are_props_sound, is_filled, is_block_sound, are_disjunctions_sound, are_disjuncts_sound}
 use Rattle.model_tree.specs.Tree.{BlockTree, block, Disjunctions, no_disjunctions, disjunction, Disjuncts, no_disjuncts, disjunct}
 use Rattle.model_tree.specs.View.{DisjunctTree, DisjunctionTree, disjunction_of, disjunct_of, disjunctions_of, disjuncts_of, props_of, props_in, disjunctions_in}
-use Rattle.model_tree.proofs.Ands.{first_holds, second_holds, both_hold}
+use Rattle.model_tree.proofs.Bools.{first_holds, second_holds, and_true}
 
 -- the answer where it is found, else what is found from the rest of the place on
 abbrev pub or_else : Result Tri ℕ → (ℕ → Result Tri ℕ) → Result Tri ℕ
@@ -135,7 +135,7 @@ never_passed m t u r h k = let e = h ∙ k in cc
 props_below : (m : ℕ) (qs : List (PropTree × ℕ)) → are_props_sound m qs ≡ true → are_props_below m qs ≡ true
 props_below m [] h = refl
 props_below m (q ∷ qs) h =
-    both_hold (are_ids_below m q.0) (are_props_below m qs)
+    and_true (are_ids_below m q.0) (are_props_below m qs)
     (first_holds (are_ids_below m q.0) (has_small_numbers q.0 && (is_shallow_prop q.0 && has_fair_lists q.0)) (first_holds (is_prop_sound m q.0) (are_props_sound m qs) h))
     (props_below m qs (second_holds (is_prop_sound m q.0) (are_props_sound m qs) h))
 
@@ -143,7 +143,7 @@ mutual
   pub block_below : (n m : ℕ) (b : BlockTree) → is_block_sound n m b ≡ true → is_block_below m b ≡ true
   block_below n m (block items ds) h =
       let k = second_holds (are_rows_below n items.rows) (are_props_sound m items.props && are_disjunctions_sound n m ds) h in
-      both_hold (are_props_below m items.props) (are_disjunctions_below m ds)
+      and_true (are_props_below m items.props) (are_disjunctions_below m ds)
       (props_below m items.props (first_holds (are_props_sound m items.props) (are_disjunctions_sound n m ds) k))
       (disjunctions_below n m ds (second_holds (are_props_sound m items.props) (are_disjunctions_sound n m ds) k))
 
@@ -151,7 +151,7 @@ mutual
   disjunctions_below n m no_disjunctions h = refl
   disjunctions_below n m (disjunction head js ds) h =
       let k = first_holds (is_filled js && are_disjuncts_sound n m js) (are_disjunctions_sound n m ds) h in
-      both_hold (are_disjuncts_below m js) (are_disjunctions_below m ds)
+      and_true (are_disjuncts_below m js) (are_disjunctions_below m ds)
       (disjuncts_below n m js (second_holds (is_filled js) (are_disjuncts_sound n m js) k))
       (disjunctions_below n m ds (second_holds (is_filled js && are_disjuncts_sound n m js) (are_disjunctions_sound n m ds) h))
 
@@ -159,6 +159,6 @@ mutual
   disjuncts_below n m no_disjuncts h = refl
   disjuncts_below n m (disjunct head b js) h =
       let k = first_holds (nat_lt head.indicator m && is_block_sound n m b) (are_disjuncts_sound n m js) h in
-      both_hold (is_block_below m b) (are_disjuncts_below m js)
+      and_true (is_block_below m b) (are_disjuncts_below m js)
       (block_below n m b (second_holds (nat_lt head.indicator m) (is_block_sound n m b) k))
       (disjuncts_below n m js (second_holds (nat_lt head.indicator m && is_block_sound n m b) (are_disjuncts_sound n m js) h))

@@ -1,11 +1,5 @@
-pub mod Ands
-pub mod Built
-pub mod Earlier
-pub mod Keeping
-pub mod Multiples
-pub mod Named
-pub mod Nested
-pub mod Places
-pub mod Propositions
-pub mod Scales
-pub mod Sorted
+pub mod Bools
+pub mod GoalLemmas
+pub mod NamesLemmas
+pub mod ScalingLemmas
+pub mod SortingLemmas

@@ -1,8 +1,16 @@
--- Rows and goals of fractions, multiplied by the least positive whole number that makes them whole.
-use Rattle.std.specs.Prelude.{ℕ, zero, suc, ◌*◌, ◌/◌, ◌%◌, ℤ, pos, ◌*ℤ◌, Bool, false, ◌||◌, List, [], ◌∷◌, map, All, unsigned_abs, if◌then◌else◌, nat_lt, ◌==◌}
+-- Rows and goals of fractions, multiplied by the least positive whole number that makes them whole, and why they are
+-- refused.
+use Rattle.std.specs.Prelude.{ℕ, zero, suc, ◌*◌, ◌/◌, ◌%◌, ℤ, pos, ◌*ℤ◌, Bool, false, not, ◌&&◌, ◌||◌, List, [], ◌∷◌, map, All, Option, None, unsigned_abs, if◌then◌else◌, nat_lt, ◌==◌}
 use Rattle.std.specs.List.{list_all, list_any}
 use Rattle.fractions.specs.Fraction.{Fraction}
-use Rattle.model_tree.specs.Bounds.{IsInLowest}
+use Rattle.outcomes.specs.Calls.{refuse_if}
+use Rattle.lp_rows.specs.declared.kinds.Rel.{Rel}
+use Rattle.lp_rows.specs.declared.kinds.Sense.{Sense}
+use Rattle.lp_rows.specs.Rows.{RowValue, is_storable, has_zero, are_storable}
+use Rattle.model_tree.specs.declared.errors.BuildError.{BuildError}
+use Rattle.model_tree.specs.declared.errors.BuildError.TheVariants.{NameTwice, NameUnknown, Number}
+use Rattle.model_tree.specs.Bounds.{has_small_parts, IsInLowest}
+use Rattle.model_tree.specs.Values.{GoalValue}
 
 -- the whole number d divides k
 abbrev pub is_multiple : ℕ → ℕ → Bool
@@ -85,3 +93,38 @@ first_above id (t ∷ ts) = if nat_lt id t.0 then 0 else suc (first_above id ts)
 -- the terms that are stored: times the whole number k, in the order of their ids
 abbrev pub stored_terms : ℕ → List (ℕ × Fraction) → List (ℕ × ℤ)
 stored_terms k ts = scaled_terms k (sorted_terms ts)
+
+-- each id is below n
+abbrev pub are_ids_below : {A : Type 0} → ℕ → List (ℕ × A) → Bool
+are_ids_below n ts = list_all (λ t. nat_lt t.0 n) ts
+
+-- The numbers of a row or goal may be stored: those given have small parts, and of those that scaling by k makes no
+-- coefficient is 0 and all are small.
+abbrev pub are_numbers : ℕ → List (ℕ × Fraction) → Fraction → Bool
+are_numbers k ts number =
+    list_all (λ t. has_small_parts t.1) ts && has_small_parts number
+    && not (has_zero (stored_terms k ts)) && are_storable (stored_terms k ts) && is_storable (scaled k number)
+
+-- Why terms and a number are refused, where the ids of the terms are known or not: the first of these causes, or else
+-- what stands below.
+abbrev pub refusal_of_terms : Bool → List (ℕ × Fraction) → Fraction → Option BuildError → Option BuildError
+refusal_of_terms known terms number below =
+    refuse_if (has_id_twice terms) NameTwice
+    (refuse_if (not known) NameUnknown
+    (refuse_if (not (are_numbers (scale_of terms number) terms number)) Number below))
+
+-- the row that is stored: scaled, its terms in the order of their ids
+abbrev pub stored_row : List (ℕ × Fraction) → Rel → Fraction → RowValue
+stored_row terms rel right =
+    let k = scale_of terms right in
+    record { terms = stored_terms k terms; rel = rel; right = scaled k right }
+
+-- why the scale of a goal is refused: it is stored too
+abbrev pub refusal_of_scale : List (ℕ × Fraction) → Fraction → Option BuildError
+refusal_of_scale terms constant = refuse_if (not (is_storable (pos (scale_of terms constant)))) Number None
+
+-- the goal that is stored: scaled, its terms in the order of their ids
+abbrev pub stored_goal : Sense → List (ℕ × Fraction) → Fraction → ℕ → GoalValue
+stored_goal sense terms constant mark =
+    let k = scale_of terms constant in
+    record { sense = sense; terms = stored_terms k terms; constant = scaled k constant; scale = pos k; mark = mark }

@@ -2,7 +2,6 @@
 use Rattle.std.specs.Prelude.{ℕ, ℤ, pos, List, []}
 use Rattle.lp_rows.specs.declared.kinds.Sense.{Sense}
 use Rattle.lp_rows.specs.declared.kinds.Sense.TheVariants.{Min}
-use Rattle.model_tree.specs.declared.models.Goal.{Goal}
 use Rattle.model_tree.specs.Variables.{VarValue, BooleanValue}
 use Rattle.model_tree.specs.declared.tree.Block.{Block}
 use Rattle.model_tree.specs.Tree.{BlockTree}
@@ -37,7 +36,3 @@ pub record ModelTree : Type 0 where
 -- the plain data that a model is
 abbrev pub model_tree : ModelValue → ModelTree
 model_tree m = record { vars = m.vars; booleans = m.booleans; goal = m.goal; root = block_of m.root }
-
--- what a stored goal stands for
-abbrev pub goal_value_of : Goal → GoalValue
-goal_value_of g = record { sense = g.sense; terms = g.terms; constant = g.constant; scale = g.scale; mark = g.mark }

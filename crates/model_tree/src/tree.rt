@@ -18,32 +18,48 @@ pub enum Mode {
 #[cycle(tree)]
 #[derive(Drop)]
 pub struct Block {
-    pub(crate) rows: Vec<(Row, u32)>,
-    pub(crate) props: Vec<(Prop, u32)>,
-    pub(crate) disjunctions: Vec<Disjunction>,
+    rows: Vec<(Row, u32)>,
+    props: Vec<(Prop, u32)>,
+    disjunctions: Vec<Disjunction>,
 }
 
 /// A choice between disjuncts.
 #[cycle(tree)]
 #[derive(Drop)]
 pub struct Disjunction {
-    pub(crate) mode: Mode,
-    pub(crate) disjuncts: Vec<Disjunct>,
-    pub(crate) mark: u32,
+    mode: Mode,
+    disjuncts: Vec<Disjunct>,
+    mark: u32,
 }
 
 /// A block with the Boolean that enforces it.
 #[cycle(tree)]
 #[derive(Drop)]
 pub struct Disjunct {
-    pub(crate) indicator: u32,
-    pub(crate) block: Block,
-    pub(crate) mark: u32,
+    indicator: u32,
+    block: Block,
+    mark: u32,
 }
 
 impl Block {
     ghost use Rattle.model_tree.specs.declared.tree.Block.TheViews.{out-Block};
+    ghost use Rattle.model_tree.specs.Tree.{block};
     ghost use Rattle.model_tree.specs.View.{block_of, disjunctions_of, props_of, rows_in, props_in, disjunctions_in};
+
+    /// The block of these rows, propositions and disjunctions.
+    pub fn new(
+        rows: Vec<(Row, u32)>,
+        props: Vec<(Prop, u32)>,
+        disjunctions: Vec<Disjunction>,
+    ) -> Block
+        ensures { block_of result ≡ block (record { rows = rows.items; props = props_of props.items }) (disjunctions_of disjunctions.items) }
+    {
+        Block {
+            rows,
+            props,
+            disjunctions,
+        }
+    }
 
     /// The rows, each with its mark.
     pub fn rows(&self) -> &[(Row, u32)]
@@ -74,6 +90,17 @@ impl Disjunction {
     ghost use Rattle.model_tree.specs.declared.tree.Block.TheViews.{out-Disjunction};
     ghost use Rattle.model_tree.specs.View.{disjunction_of, disjuncts_of};
 
+    /// The disjunction of these disjuncts.
+    pub fn new(mode: Mode, disjuncts: Vec<Disjunct>, mark: u32) -> Disjunction
+        ensures { disjunction_of result ≡ (record { mode = mode; mark = mark }, disjuncts_of disjuncts.items) }
+    {
+        Disjunction {
+            mode,
+            disjuncts,
+            mark,
+        }
+    }
+
     /// How many of the indicators are to be true.
     pub fn mode(&self) -> Mode
         ensures { result ≡ (disjunction_of self.now).0.mode }
@@ -100,6 +127,17 @@ impl Disjunction {
 impl Disjunct {
     ghost use Rattle.model_tree.specs.declared.tree.Block.TheViews.{out-Disjunct};
     ghost use Rattle.model_tree.specs.View.{block_of, disjunct_of};
+
+    /// The disjunct whose block is enforced by the Boolean of this number.
+    pub fn new(indicator: u32, block: Block, mark: u32) -> Disjunct
+        ensures { disjunct_of result ≡ (record { indicator = indicator; mark = mark }, block_of block) }
+    {
+        Disjunct {
+            indicator,
+            block,
+            mark,
+        }
+    }
 
     /// The number of the Boolean that enforces the block.
     pub fn indicator(&self) -> u32

@@ -10,7 +10,7 @@ use Rattle.fractions.specs.Width.{fits, wide}
 use Rattle.fractions.proofs.Reduction.{lowest_divides}
 use Rattle.int_linear.specs.Terms.{dot}
 use Rattle.lp_rows.specs.Holding.{sum_fits, sum_or_wide}
-use Rattle.model_tree.proofs.Keeping.{and_true}
+use Rattle.model_tree.proofs.Bools.{and_true}
 
 size_fits : (z : ℤ) → fits z ≡ true → unsigned_abs z ≤ 2 ^ 127
 size_fits (pos n) h = grind (arith, nat_tests)

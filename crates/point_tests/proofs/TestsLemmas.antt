@@ -16,7 +16,7 @@ use Rattle.model_tree.specs.Tree.{below, below_disjunctions, below_disjuncts}
 use Rattle.point_tests.specs.Tests.{Test, passes, fails, is_wide, verdict_of, tests_of_var, tests_of_vars, test_of_prop, test_of_off, tests_of_disjunctions, tests_of_disjuncts, tests_of_disjunction, tests_of_disjunct}
 use Rattle.model_tree.specs.Variables.{VarValue}
 use Rattle.model_tree.specs.View.{disjunction_of, disjunct_of, disjunctions_of, disjuncts_of, props_of}
-use Rattle.model_tree.proofs.Ands.{second_holds}
+use Rattle.model_tree.proofs.Bools.{second_holds}
 
 -- the first verdict where it decides, else the second
 abbrev pub first_of : Result Verdict SumWide → Result Verdict SumWide → Result Verdict SumWide

@@ -3,7 +3,7 @@
 ghost use Rattle.std.specs.Prelude.{◌≡◌, [], ◌∷◌, IfOk, length, true};
 ghost use Rattle.std.specs.Option.{option_map};
 ghost use Rattle.propositions.specs.View.{prop_tree, prop_trees};
-ghost use Rattle.model_tree.specs.Standing.{stands_for};
+ghost use Rattle.model_builder.specs.Standing.{stands_for};
 ghost use Rattle.gdp_grammar.specs.PropReading.{prop_of};
 ghost use Rattle.gdp_grammar.specs.PropTexts.{takes as takes_so_many};
 ghost use Rattle.gdp_lines.specs.Gives.{Gives};
@@ -27,7 +27,7 @@ use gdp_grammar::ReadCause;
 use gdp_lines::fault::LineError;
 use gdp_lines::token::Tokens;
 use gdp_tables::Words;
-use model_tree::ModelBuilder;
+use model_builder::ModelBuilder;
 use outcomes::Memory;
 use propositions::Prop;
 use std::alloc::Global;

@@ -2,7 +2,7 @@
 
 ghost use Rattle.std.specs.Prelude.{◌≡◌};
 ghost use Rattle.propositions.specs.View.{prop_tree};
-ghost use Rattle.model_tree.specs.Standing.{stands_for};
+ghost use Rattle.model_builder.specs.Standing.{stands_for};
 ghost use Rattle.gdp_lines.specs.Gives.{Gives};
 ghost use Rattle.prop_reader.specs.LogicLines.{line_tree};
 ghost use Rattle.prop_reader.specs.SizeCauses.{refusal_of_size};
@@ -12,7 +12,7 @@ use crate::measure::{Size, measure};
 use gdp_grammar::ReadCause;
 use gdp_lines::fault::LineError;
 use gdp_lines::token::Tokens;
-use model_tree::ModelBuilder;
+use model_builder::ModelBuilder;
 use model_tree::limits::{DEEPEST_PROPOSITION, GREATEST_NUMBER, MOST_ARGUMENTS, MOST_NODES};
 use propositions::Prop;
 use std::alloc::Global;

@@ -1,7 +1,7 @@
 //! How large a proposition is, from its tokens: nothing is built.
 
 ghost use Rattle.std.specs.Prelude.{◌≡◌, ◌+◌, ◌-◌, ◌*◌, ◌^◌, min};
-ghost use Rattle.model_tree.specs.Standing.{stands_for};
+ghost use Rattle.model_builder.specs.Standing.{stands_for};
 ghost use Rattle.gdp_grammar.specs.Numerals.{decimal};
 ghost use Rattle.gdp_grammar.specs.PropReading.{prop_of};
 ghost use Rattle.gdp_grammar.specs.PropTexts.{takes as takes_so_many};
@@ -24,7 +24,7 @@ use gdp_grammar::ReadCause;
 use gdp_lines::fault::LineError;
 use gdp_lines::token::Tokens;
 use gdp_tables::Words;
-use model_tree::ModelBuilder;
+use model_builder::ModelBuilder;
 use std::alloc::Global;
 
 /// The size of a proposition: whether each name is that of a Boolean, the greatest number of a counting operator, the

@@ -3,7 +3,7 @@
 use crate::words::{bytes, bytes_text};
 use gdp_lines::value::value;
 use gdp_lines::{Token, Tokens, are_words, first_line, without_comment};
-use model_tree::ModelBuilder;
+use model_builder::ModelBuilder;
 use prop_reader::build::build;
 use prop_reader::measure::{Size, measure};
 use propositions::{depth, greatest_number, most_arguments, node_count};

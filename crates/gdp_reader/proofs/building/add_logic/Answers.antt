@@ -1,5 +1,5 @@
 use Rattle.std.proofs.Common.{◌∙◌, sym, subst}
-use Rattle.model_tree.specs.Standing.{stands_for}
+use Rattle.model_builder.specs.Standing.{stands_for}
 use Rattle.gdp_grammar.specs.Reading.{with_logic}
 use Rattle.gdp_lines.specs.declared.fault.LineError.{LineError}
 use Rattle.gdp_lines.specs.Gives.{Fails}

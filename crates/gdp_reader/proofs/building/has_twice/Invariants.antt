@@ -1,5 +1,5 @@
 use Rattle.std.proofs.Common.{◌≡◌, map, take, length, false}
-use Rattle.model_tree.specs.Standing.{stands_for}
+use Rattle.model_builder.specs.Standing.{stands_for}
 use Rattle.gdp_grammar.specs.Reading.{named, has_twice}
 use Rattle.gdp_lines.specs.Lines.{summand}
 use Rattle.gdp_reader.proofs.Marks.{IsMarked}

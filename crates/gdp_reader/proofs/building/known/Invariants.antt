@@ -1,5 +1,5 @@
 use Rattle.std.proofs.Common.{◌≡◌, map, drop}
-use Rattle.model_tree.specs.Standing.{stands_for}
+use Rattle.model_builder.specs.Standing.{stands_for}
 use Rattle.gdp_grammar.specs.Reading.{known_terms}
 use Rattle.gdp_lines.specs.Lines.{summand, named_summand}
 use Rattle.gdp_reader.proofs.BuildingSteps.{with_terms}

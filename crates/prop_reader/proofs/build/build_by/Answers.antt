@@ -1,7 +1,7 @@
 use Rattle.std.specs.Option.{option_map}
 use Rattle.propositions.specs.View.{prop_tree}
 use Rattle.std.proofs.Common.{ap, ◌∙◌, List, None, refl}
-use Rattle.model_tree.specs.Standing.{stands_for}
+use Rattle.model_builder.specs.Standing.{stands_for}
 use Rattle.gdp_grammar.specs.PropReading.{prop_of, made_of, wants}
 use Rattle.prop_reader.specs.Heads.{head_value}
 use Rattle.gdp_grammar.specs.Causes.{result_map}

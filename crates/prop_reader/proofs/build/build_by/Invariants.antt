@@ -1,7 +1,7 @@
 use Rattle.std.proofs.Common.{◌≡◌, length}
 use Rattle.std.specs.Option.{option_map}
 use Rattle.propositions.specs.View.{prop_tree}
-use Rattle.model_tree.specs.Standing.{stands_for}
+use Rattle.model_builder.specs.Standing.{stands_for}
 use Rattle.gdp_grammar.specs.PropReading.{made_of, prop_of}
 use Rattle.gdp_grammar.specs.Causes.{result_map}
 use Rattle.prop_reader.specs.Trees.{capped_tree, by_trees, opened_value}

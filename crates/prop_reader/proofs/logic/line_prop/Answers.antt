@@ -1,5 +1,5 @@
 use Rattle.std.proofs.Common.{sym}
-use Rattle.model_tree.specs.Standing.{stands_for}
+use Rattle.model_builder.specs.Standing.{stands_for}
 use Rattle.prop_reader.proofs.PropLines.{line_built}
 use Rattle.prop_reader.proofs.logic.line_prop.Goals as goal
 

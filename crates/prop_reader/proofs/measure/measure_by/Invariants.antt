@@ -1,5 +1,5 @@
 use Rattle.std.proofs.Common.{◌≡◌, length}
-use Rattle.model_tree.specs.Standing.{stands_for}
+use Rattle.model_builder.specs.Standing.{stands_for}
 use Rattle.gdp_grammar.specs.PropReading.{made_of, prop_of}
 use Rattle.gdp_grammar.specs.Causes.{result_map}
 use Rattle.prop_reader.specs.Sizes.{size_of, by_sizes, frame_value}

@@ -1,7 +1,7 @@
 use Rattle.std.proofs.Common.{◌∙◌, ap, string_bytes}
 use Rattle.std.specs.Str.{bytes_eq}
 use Rattle.model_tree.specs.Names.{has_name}
-use Rattle.model_tree.proofs.Named.{any_mapped}
+use Rattle.model_tree.proofs.NamesLemmas.{any_mapped}
 use Rattle.model_tree.proofs.names.Names.contains.Goals as goal
 
 pub returns : goal.returns

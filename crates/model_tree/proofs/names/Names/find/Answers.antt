@@ -1,7 +1,7 @@
 use Rattle.std.proofs.Common.{◌∙◌, ap, string_bytes}
 use Rattle.std.specs.List.{position}
 use Rattle.std.specs.Str.{bytes_eq}
-use Rattle.model_tree.proofs.Named.{position_mapped}
+use Rattle.model_tree.proofs.NamesLemmas.{position_mapped}
 use Rattle.model_tree.proofs.names.Names.find.Goals as goal
 
 pub returns : goal.returns

@@ -1,6 +1,6 @@
 use Rattle.std.proofs.Common.{◌++◌, ◌∷◌, [], ◌∙◌, ap, string_bytes}
 use Rattle.model_tree.specs.Names.{has_name}
-use Rattle.model_tree.proofs.Named.{pushed}
+use Rattle.model_tree.proofs.NamesLemmas.{pushed}
 use Rattle.model_tree.proofs.names.Names.push.Goals as goal
 
 pub returns-clause-ok : goal.returns-clause-ok
