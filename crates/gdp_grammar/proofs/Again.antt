@@ -1,57 +1,36 @@
 -- What is read again of printed bytes: their lines and their tokens.
-use Rattle.std.proofs.Common.{◌≡◌, ℕ, ◌+◌, ◌-◌, ◌*◌, ◌/◌, ◌%◌, ◌^◌, ◌<◌, ◌≤◌, Bool, true, false, ◌==◌, ◌&&◌, ◌||◌, not, List, [], ◌∷◌, ◌++◌, length, codes, refl, ap, ◌∙◌, append_assoc, length-append, arith}
+use Rattle.std.proofs.Common.{◌≡◌, ℕ, Bool, true, false, ◌==◌, ◌&&◌, ◌||◌, not, List, [], ◌∷◌, ◌++◌, codes, refl, ap, ◌∙◌, append_assoc, arith}
 use Rattle.std.specs.List.{list_all}
-use Rattle.std.specs.Fmt as fmt
-use Rattle.std.proofs.lemmas.Fmt.{decimal_by_steps_wide}
 use Rattle.std.proofs.lemmas.Bool.{cond-true, cond-false}
 use Rattle.std.proofs.lemmas.Bool.Decides.{nat_tests}
 use Rattle.model_tree.specs.Names.{begins_name, continues_name, is_digit}
+use Rattle.text_grammar.specs.Lexers.{tokens_by}
 use Rattle.gdp_grammar.specs.declared.class.Class.{Class}
 use Rattle.gdp_grammar.specs.declared.class.Class.TheVariants as class
 use Rattle.gdp_grammar.specs.declared.symbol.Symbol.TheVariants.{Plus, Minus, AtMost, AtLeast, Equal}
-use Rattle.gdp_grammar.specs.Canonical.{spaced, text_of}
+use Rattle.text_grammar.specs.Printing.{spaced, text_of}
 use Rattle.gdp_grammar.specs.Classes.{belongs, front, rest}
-use Rattle.gdp_grammar.specs.Lines.{lines_of, newline_next, onto_first, without_comment}
-use Rattle.gdp_grammar.specs.Numerals.{Numeral, Whole, Fraction, decimal}
+use Rattle.gdp_grammar.specs.Lines.{without_comment}
+use Rattle.text_grammar.specs.Lines.{lines_of}
+use Rattle.gdp_grammar.specs.Numerals.{Numeral, Whole, Fraction}
 use Rattle.gdp_grammar.specs.Tokens.{Piece, Word, Number, Mark, numeral_of, double_of, token_of, tokens_of}
 use Rattle.gdp_grammar.proofs.Pieces.{blank_before, token_before}
-
-pub both : (a b : Bool) → (a && b) ≡ true → (a ≡ true) × (b ≡ true)
-both true b e = (refl, e)
-both false b e = absurd (cc e)
-
-pub and_true : (a b : Bool) → a ≡ true → b ≡ true → (a && b) ≡ true
-and_true true b p q = q
-and_true false b p q = absurd (cc p)
-
-pub and_false : (a : Bool) → (a && false) ≡ false
-and_false true = refl
-and_false false = refl
-
-pub all_appended : (test : ℕ → Bool) (xs ys : List ℕ) → list_all test xs ≡ true → list_all test ys ≡ true → list_all test (xs ++ ys) ≡ true
-all_appended test [] ys p q = q
-all_appended test (x ∷ xs) ys p q = let h = both (test x) (list_all test xs) p in and_true (test x) (list_all test (xs ++ ys)) h.0 (all_appended test xs ys h.1 q)
-
-pub all_weaker : (test other : ℕ → Bool) (xs : List ℕ) → ((b : ℕ) → test b ≡ true → other b ≡ true) → list_all test xs ≡ true → list_all other xs ≡ true
-all_weaker test other [] weaker p = refl
-all_weaker test other (x ∷ xs) weaker p = let h = both (test x) (list_all test xs) p in and_true (other x) (list_all other xs) (weaker x h.0) (all_weaker test other xs weaker h.1)
+use Rattle.text_grammar.specs.Digits.{AreDigits}
+use Rattle.text_grammar.proofs.Bools.{both, and_true, all_weaker}
+use Rattle.text_grammar.proofs.BytesLemmas as fronts
+use Rattle.text_grammar.proofs.LexersLemmas.{IsApart, spaced_apart}
+use Rattle.text_grammar.proofs.PrintingLemmas.{is_written, are_written, lines_again}
 
 -- a byte of a printed line: no newline, no carriage return and no `#`
 abbrev pub is_printed : ℕ → Bool
 is_printed b = not (b == 10) && (not (b == 13) && not (b == 35))
 
-pub not_true : (a : Bool) → not a ≡ true → a ≡ false
-not_true true p = absurd (cc p)
-not_true false p = refl
-
-pub lines_again : (line after : List ℕ) → list_all is_printed line ≡ true → lines_of (line ++ 10 ∷ after) ≡ line ∷ lines_of after
-lines_again [] after p = refl
-lines_again (b ∷ bs) after p =
-    let h = both (is_printed b) (list_all is_printed bs) p in
-    let n = both (not (b == 10)) (not (b == 13) && not (b == 35)) h.0 in
+-- such a byte stands in a line as it is written
+printed_written : (b : ℕ) → is_printed b ≡ true → is_written b ≡ true
+printed_written b p =
+    let n = both (not (b == 10)) (not (b == 13) && not (b == 35)) p in
     let r = both (not (b == 13)) (not (b == 35)) n.1 in
-    let other : (newline_next (bs ++ 10 ∷ after) && (b == 13)) ≡ false = ap (λ x. newline_next (bs ++ 10 ∷ after) && x) (not_true (b == 13) r.0) ∙ and_false (newline_next (bs ++ 10 ∷ after)) in
-    cond-false (b == 10) _ _ (not_true (b == 10) n.0) ∙ cond-false (newline_next (bs ++ 10 ∷ after) && (b == 13)) _ _ other ∙ ap (onto_first b) (lines_again bs after h.1)
+    and_true (not (b == 10)) (not (b == 13)) n.0 r.0
 
 pub without_comment_again : (line : List ℕ) → list_all is_printed line ≡ true → without_comment line ≡ line
 without_comment_again [] p = refl
@@ -66,35 +45,24 @@ abbrev pub are_printed : List (List ℕ) → Bool
 are_printed [] = true
 are_printed (line ∷ lines) = list_all is_printed line && are_printed lines
 
-pub text_lines_again : (lines : List (List ℕ)) → are_printed lines ≡ true → lines_of (text_of lines) ≡ lines
-text_lines_again [] p = refl
-text_lines_again (line ∷ lines) p =
+all_written : (lines : List (List ℕ)) → are_printed lines ≡ true → are_written lines ≡ true
+all_written [] p = refl
+all_written (line ∷ lines) p =
     let h = both (list_all is_printed line) (are_printed lines) p in
-    lines_again line (text_of lines) h.0 ∙ ap (λ ls. line ∷ ls) (text_lines_again lines h.1)
+    and_true (list_all is_written line) (are_written lines) (all_weaker is_printed is_written line printed_written h.0) (all_written lines h.1)
+
+pub text_lines_again : (lines : List (List ℕ)) → are_printed lines ≡ true → lines_of (text_of lines) ≡ lines
+text_lines_again lines p = lines_again lines (all_written lines p)
 
 -- what follows belongs to the class no more
 abbrev pub Stops : Class → List ℕ → Type 0
-Stops kind [] = Unit {0}
-Stops kind (b ∷ bs) = belongs kind b ≡ false
+Stops kind after = fronts.Stops (belongs kind) after
 
 front_again : (kind : Class) (w after : List ℕ) → list_all (belongs kind) w ≡ true → Stops kind after → front kind (w ++ after) ≡ w
-front_again kind [] [] p s = refl
-front_again kind [] (b ∷ bs) p s = cond-false (belongs kind b) _ _ s
-front_again kind (b ∷ bs) after p s =
-    let h = both (belongs kind b) (list_all (belongs kind) bs) p in
-    cond-true (belongs kind b) _ _ h.0 ∙ ap (λ l. b ∷ l) (front_again kind bs after h.1 s)
+front_again kind w after p s = fronts.front_again (belongs kind) w after p s
 
 rest_again : (kind : Class) (w after : List ℕ) → list_all (belongs kind) w ≡ true → Stops kind after → rest kind (w ++ after) ≡ after
-rest_again kind [] [] p s = refl
-rest_again kind [] (b ∷ bs) p s = cond-false (belongs kind b) _ _ s
-rest_again kind (b ∷ bs) after p s =
-    let h = both (belongs kind b) (list_all (belongs kind) bs) p in
-    cond-true (belongs kind b) _ _ h.0 ∙ rest_again kind bs after h.1 s
-
--- nothing comes next, or a blank
-abbrev pub IsApart : List ℕ → Type 0
-IsApart [] = Unit {0}
-IsApart (b ∷ bs) = b ≡ 32
+rest_again kind w after p s = fronts.rest_again (belongs kind) w after p s
 
 apart_stops : (kind : Class) (after : List ℕ) → belongs kind 32 ≡ false → IsApart after → Stops kind after
 apart_stops kind [] p a = tt
@@ -137,11 +105,6 @@ unfolding token_of
 digit_token b bs p =
     token_before b bs (digit_unblank b p)
     ∙ ap (λ (t : Piece × List ℕ). t.0 ∷ tokens_of t.1) (cond-false (begins_name b) _ _ (digit_begins_no_name b p) ∙ cond-true (is_digit b) _ _ p)
-
--- digits, one at least
-pub record AreDigits (ds : List ℕ) : Type 0 where
-  pub some : 0 < length ds
-  pub all : list_all is_digit ds ≡ true
 
 whole_numeral : (digits after : List ℕ) → IsApart after → numeral_of digits after ≡ (Whole digits, after)
 unfolding numeral_of
@@ -219,53 +182,13 @@ unfolding token_of
 equal_again after a = token_before 61 after refl
 
 -- words one after the other
-spaced_apart : (words : List (List ℕ)) → IsApart (spaced words)
-spaced_apart [] = tt
-spaced_apart (w ∷ ws) = refl
-
 pub words_again : (w : List ℕ) (ps : List Piece) (words : List (List ℕ)) → Reads w ps → tokens_of (spaced (w ∷ words)) ≡ ps ++ tokens_of (spaced words)
 words_again w ps words reads = blank_before 32 (w ++ spaced words) refl ∙ reads (spaced words) (spaced_apart words)
 
 -- the last word of a line
 pub last_again : (w : List ℕ) (ps : List Piece) → Reads w ps → tokens_of (spaced (w ∷ [])) ≡ ps ++ []
-unfolding tokens_of
+unfolding tokens_of tokens_by
 last_again w ps reads = words_again w ps [] reads
 
 pub first_again : (w : List ℕ) (ps : List Piece) (words : List (List ℕ)) → Reads w ps → tokens_of (w ++ spaced words) ≡ ps ++ tokens_of (spaced words)
 first_again w ps words reads = reads (spaced words) (spaced_apart words)
-
--- the digits that a number is printed with
-record IsPrinted (n : ℕ) (ds : List ℕ) : Type 0 where
-  digits : AreDigits ds
-  value : decimal 0 ds ≡ n
-
-digit_of : (n : ℕ) → n < 10 → is_digit (48 + n) ≡ true
-digit_of n h = grind (arith, nat_tests)
-
-decimal_append : (v : ℕ) (xs : List ℕ) (d : ℕ) → decimal v (xs ++ d ∷ []) ≡ decimal v xs * 10 + (d - 48)
-decimal_append v [] d = refl
-decimal_append v (x ∷ xs) d = decimal_append (v * 10 + (x - 48)) xs d
-
-printed_digit : (n : ℕ) → n < 10 → IsPrinted n ((48 + n) ∷ [])
-printed_digit n h = record {
-  digits = record { some = omega arith; all = and_true (is_digit (48 + n)) true (digit_of n h) refl };
-  value = omega arith;
-}
-
-printed_step : (n : ℕ) (ds : List ℕ) → 10 ≤ n → IsPrinted (n / 10) ds → IsPrinted n (ds ++ ((48 + n % 10) ∷ []))
-printed_step n ds h p = record {
-  digits = record {
-    some = omega (arith, p.digits.some, length-append ds ((48 + n % 10) ∷ []));
-    all = all_appended is_digit ds ((48 + n % 10) ∷ []) p.digits.all (and_true (is_digit (48 + n % 10)) true (digit_of (n % 10) (omega arith)) refl);
-  };
-  value = decimal_append 0 ds (48 + n % 10) ∙ omega (arith, p.value);
-}
-
-printed : (n : ℕ) → n < 10 ^ 64 → IsPrinted n (fmt.decimal n)
-printed = decimal_by_steps_wide (λ n ds. IsPrinted n ds) printed_digit printed_step
-
-pub decimal_digits : (n : ℕ) → n < 10 ^ 64 → AreDigits (fmt.decimal n)
-decimal_digits n small = (printed n small).digits
-
-pub decimal_value : (n : ℕ) → n < 10 ^ 64 → decimal 0 (fmt.decimal n) ≡ n
-decimal_value n small = (printed n small).value

@@ -31,11 +31,12 @@ use Rattle.gdp_grammar.specs.declared.cause.ReadCause.{ReadCause}
 use Rattle.gdp_grammar.specs.Canonical.{terms_over}
 use Rattle.gdp_grammar.specs.Forms.{Signed, Summand, Var, Boolean, Goal, Row}
 use Rattle.gdp_grammar.specs.Lowest.{over}
-use Rattle.gdp_grammar.specs.Reading.{terms_of, constant_value, with_var, with_row, with_goal, with_form, after_call, or_cause}
+use Rattle.gdp_grammar.specs.Reading.{terms_of, constant_value, with_var, with_row, with_goal, with_form, after_call}
+use Rattle.text_grammar.specs.Outcomes.{or_cause}
 use Rattle.gdp_grammar.specs.declared.cause.ReadCause.TheVariants.{Form, Number}
-use Rattle.gdp_grammar.specs.Causes as cause
-use Rattle.gdp_grammar.specs.Causes.{◌>>=◌}
-use Rattle.gdp_grammar.proofs.Again.{both}
+use Rattle.text_grammar.specs.Outcomes as cause
+use Rattle.text_grammar.specs.Outcomes.{◌>>=◌}
+use Rattle.text_grammar.proofs.Bools.{both}
 use Rattle.gdp_grammar.proofs.LinesAgain.{end_for, signed_for, summands_for, constant_for, goal_form}
 use Rattle.gdp_grammar.proofs.Lowest.{over_reduced}
 use Rattle.gdp_grammar.proofs.Rebuilt.{IsFit, IsEndFit, AreTermsFit, end_again, value_again, terms_again}
@@ -240,7 +241,7 @@ with_goal_is : (b b' : BuildingValue) (line : ℕ) (sense : Sense) (sum : List S
 unfolding with_goal
 with_goal_is b b' line sense sum constant ts f root none terms number outcome =
     let no_goal : is_some b.goal ≡ false = ap is_some none in
-    let place : cause.refuse_if (not (is_at_root b) || is_some b.goal) Form ≡ Ok tt = ap (λ x. cause.refuse_if (not x || is_some b.goal) Form) root ∙ ap (λ x. cause.refuse_if x Form) no_goal in
+    let place : cause.refused_where (not (is_at_root b) || is_some b.goal) Form ≡ Ok tt = ap (λ x. cause.refused_where (not x || is_some b.goal) Form) root ∙ ap (λ x. cause.refused_where x Form) no_goal in
     let with_number : or_cause Number (constant_value constant) ≡ Ok f = ap (or_cause Number) number in
     ap (λ (r : Result (Unit {0}) ReadCause). r >>= (λ u. terms_of b.vars sum >>= (λ t. or_cause Number (constant_value constant) >>= (λ c. after_call (goal_outcome sense t c line b))))) place
     ∙ ap (λ (r : Result (List (ℕ × fraction.Fraction)) ReadCause). r >>= (λ t. or_cause Number (constant_value constant) >>= (λ c. after_call (goal_outcome sense t c line b)))) terms

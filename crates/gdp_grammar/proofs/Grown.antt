@@ -21,18 +21,21 @@ use Rattle.model_tree.specs.Values.{GoalValue, ModelTree}
 use Rattle.model_tree.specs.Variables.{VarValue, BooleanValue}
 use Rattle.gdp_grammar.specs.declared.cause.ReadCause.{ReadCause}
 use Rattle.gdp_grammar.specs.declared.cause.ReadCause.TheVariants as cause
-use Rattle.gdp_grammar.specs.Causes.{refuse_if}
+use Rattle.text_grammar.specs.Outcomes.{refused_where}
 use Rattle.gdp_grammar.specs.Declaring.{is_blank, form_on, end_value, var_in, boolean_in, goal_in, vars_from, booleans_from, goals_from, IsGoalOf}
 use Rattle.gdp_grammar.specs.Forms.{Form, Var, Boolean, Goal, Row, Logic, Disjunction, Disjunct, End, Signed, Summand, form_of}
 use Rattle.gdp_grammar.specs.Laws.{LaidOut}
-use Rattle.gdp_grammar.specs.Lines.{lines_of, without_comment}
+use Rattle.gdp_grammar.specs.Lines.{without_comment}
+use Rattle.text_grammar.specs.Lines.{lines_of}
 use Rattle.gdp_grammar.specs.Numerals.{value_of}
 use Rattle.gdp_grammar.specs.PropNames.{are_known, tree_in}
 use Rattle.gdp_grammar.specs.PropReading.{prop_of}
-use Rattle.gdp_grammar.specs.Reading.{Taken, nothing_taken, or_cause, end_of, after_call, with_var, terms_of, constant_value, with_goal, with_row, with_logic, with_form, is_header, with_header, with_tokens, with_content, with_line, finished, model_after}
-use Rattle.gdp_grammar.specs.Spelling.{Leads}
+use Rattle.gdp_grammar.specs.Reading.{Taken, nothing_taken, end_of, after_call, with_var, terms_of, constant_value, with_goal, with_row, with_logic, with_form, is_header, with_header, with_tokens, with_content, with_line, finished, model_after}
+use Rattle.text_grammar.specs.Outcomes.{or_cause}
+use Rattle.text_grammar.specs.Grammars.{LeadsBy}
+use Rattle.gdp_grammar.specs.Spelling.{model_grammar}
 use Rattle.gdp_grammar.specs.Tokens.{Piece, tokens_of}
-use Rattle.gdp_grammar.specs.Words.{words_of, is_some_word}
+use Rattle.text_grammar.specs.Words.{words_of, is_some_word}
 use Rattle.gdp_grammar.proofs.Sums.{bind_ok}
 
 -- the marks of the goal that was given
@@ -91,8 +94,8 @@ end_read (Some s) end e =
 var_grows : (b new : BuildingValue) (line : ℕ) (name : List ℕ) (kind : Kind) (low high : Option Signed) → with_var b line name kind low high ≡ Ok new → Grows b new (var_in line (Ok (Var name kind low high))) [] []
 unfolding with_var
 var_grows b new line name kind low high e =
-    let place = bind_ok (refuse_if (not (is_at_root b)) cause.Form) _ new e in
-    let free = bind_ok (refuse_if (is_taken name b) cause.NameTwice) _ new place.2 in
+    let place = bind_ok (refused_where (not (is_at_root b)) cause.Form) _ new e in
+    let free = bind_ok (refused_where (is_taken name b) cause.NameTwice) _ new place.2 in
     let lower = bind_ok (end_of low) _ new free.2 in
     let upper = bind_ok (end_of high) _ new lower.2 in
     let bound : Bound = record { low = lower.0; high = upper.0 } in
@@ -106,7 +109,7 @@ var_grows b new line name kind low high e =
     })
 
 -- a goal that was not given has no mark
-no_goal_yet : (root given : Bool) (goal : Option GoalValue) (u : Unit {0}) → is_some goal ≡ given → refuse_if (root || given) cause.Form ≡ Ok u → goal_marks goal ≡ []
+no_goal_yet : (root given : Bool) (goal : Option GoalValue) (u : Unit {0}) → is_some goal ≡ given → refused_where (root || given) cause.Form ≡ Ok u → goal_marks goal ≡ []
 no_goal_yet root given None u is e = refl
 no_goal_yet true given (Some goal) u is e = absurd (cc e)
 no_goal_yet false true (Some goal) u is e = absurd (cc e)
@@ -115,7 +118,7 @@ no_goal_yet false false (Some goal) u is e = absurd (cc is)
 goal_grows : (b new : BuildingValue) (line : ℕ) (sense : Sense) (sum : List Summand) (constant : Option Signed) → with_goal b line sense sum constant ≡ Ok new → Grows b new [] [] (line ∷ [])
 unfolding with_goal
 goal_grows b new line sense sum constant e =
-    let place = bind_ok (refuse_if (not (is_at_root b) || is_some b.goal) cause.Form) _ new e in
+    let place = bind_ok (refused_where (not (is_at_root b) || is_some b.goal) cause.Form) _ new e in
     let terms = bind_ok (terms_of b.vars sum) _ new place.2 in
     let number = bind_ok (or_cause cause.Number (constant_value constant)) _ new terms.2 in
     let made : BuildingValue = record b { goal = Some (stored_goal sense terms.0 number.0 line) } in
@@ -130,7 +133,7 @@ goal_grows b new line sense sum constant e =
 row_grows : (b new : BuildingValue) (line : ℕ) (sum : List Summand) (rel : Rel) (right : Signed) → with_row b line sum rel right ≡ Ok new → Grows b new [] [] []
 unfolding with_row
 row_grows b new line sum rel right e =
-    let place = bind_ok (refuse_if (is_some b.opened) cause.Form) _ new e in
+    let place = bind_ok (refused_where (is_some b.opened) cause.Form) _ new e in
     let terms = bind_ok (terms_of b.vars sum) _ new place.2 in
     let number = bind_ok (or_cause cause.Number (value_of right.is_negative right.size)) _ new terms.2 in
     let row : RowValue × ℕ = (stored_row terms.0 rel number.0, line) in
@@ -140,9 +143,9 @@ row_grows b new line sum rel right e =
 logic_grows : (b new : BuildingValue) (line : ℕ) (tokens : List Piece) → with_logic b line tokens ≡ Ok new → Grows b new [] [] []
 unfolding with_logic
 logic_grows b new line tokens e =
-    let place = bind_ok (refuse_if (is_some b.opened) cause.Form) _ new e in
+    let place = bind_ok (refused_where (is_some b.opened) cause.Form) _ new e in
     let p = bind_ok (prop_of tokens) _ new place.2 in
-    let known = bind_ok (refuse_if (not (are_known b.booleans p.0)) cause.NameUnknown) _ new p.2 in
+    let known = bind_ok (refused_where (not (are_known b.booleans p.0)) cause.NameUnknown) _ new p.2 in
     let made : BuildingValue = record b { inner = record b.inner { props = b.inner.props ++ (tree_in b.booleans p.0, line) ∷ [] } } in
     keeps_all b made new refl refl refl (called (refusal_of_prop (tree_in b.booleans p.0) b) b tt made new known.2)
 
@@ -214,7 +217,7 @@ line_adds t next line l h e =
     tokens_add t next line (tokens_of (without_comment l)) (sym (headed_line t line (without_comment l) h) ∙ content_adds t next line l e)
 
 -- the lines after the header add their variables and Booleans
-lines_add : (line : ℕ) (t after : Taken) (ls : List (List ℕ)) → t.headed ≡ true → Leads line t ls after → Grows t.building after.building (vars_from line ls) (booleans_from line ls) (goals_from line ls)
+lines_add : (line : ℕ) (t after : Taken) (ls : List (List ℕ)) → t.headed ≡ true → LeadsBy model_grammar line t ls after → Grows t.building after.building (vars_from line ls) (booleans_from line ls) (goals_from line ls)
 lines_add line t after [] h e = grows_none t.building after.building (ap (λ (x : Taken). x.building) e)
 lines_add line t after (l ∷ ls) h lead =
     let one = line_adds t lead.0 line l h lead.1 in
@@ -226,7 +229,7 @@ lines_add line t after (l ∷ ls) h lead =
     }
 
 -- the test was passed
-passed : (b : Bool) (cause : ReadCause) (u : Unit {0}) → refuse_if (not b) cause ≡ Ok u → b ≡ true
+passed : (b : Bool) (cause : ReadCause) (u : Unit {0}) → refused_where (not b) cause ≡ Ok u → b ≡ true
 passed true c u e = refl
 passed false c u e = absurd (cc e)
 
@@ -238,18 +241,18 @@ record Headed (line : ℕ) (t after : Taken) (ls : List (List ℕ)) : Type 0 whe
   cut : ls ≡ blank ++ header ∷ others
   are_blank : list_all is_blank blank ≡ true
   is_first : is_header (words_of (without_comment header)) ≡ true
-  lead : Leads (line + length blank + 1) (record t { headed = true }) others after
+  lead : LeadsBy model_grammar (line + length blank + 1) (record t { headed = true }) others after
 
-headed : (line : ℕ) (t after : Taken) (ls : List (List ℕ)) → t.headed ≡ false → after.headed ≡ true → Leads line t ls after → Headed line t after ls
+headed : (line : ℕ) (t after : Taken) (ls : List (List ℕ)) → t.headed ≡ false → after.headed ≡ true → LeadsBy model_grammar line t ls after → Headed line t after ls
 headed line t after [] off on e =
     let both : false ≡ true = sym off ∙ ap (λ (x : Taken). x.headed) e ∙ on in
     absurd (cc both)
 headed line t after (l ∷ ls) off on lead = go (words_of (without_comment l)) refl (sym (first_line t line (without_comment l) off) ∙ content_adds t lead.0 line l lead.1) (λ next. headed (line + 1) t after ls off on next)
   where
-    go : (ws : List (List ℕ)) → words_of (without_comment l) ≡ ws → with_header t ws ≡ Ok lead.0 → (Leads (line + 1) t ls after → Headed (line + 1) t after ls) → Headed line t after (l ∷ ls)
+    go : (ws : List (List ℕ)) → words_of (without_comment l) ≡ ws → with_header t ws ≡ Ok lead.0 → (LeadsBy model_grammar (line + 1) t ls after → Headed (line + 1) t after ls) → Headed line t after (l ∷ ls)
     go [] is e below =
         let same : t ≡ lead.0 = cc e in
-        let more = below (subst (λ (x : Taken). Leads (line + 1) x ls after) (sym same) lead.2) in
+        let more = below (subst (λ (x : Taken). LeadsBy model_grammar (line + 1) x ls after) (sym same) lead.2) in
         record {
           blank = l ∷ more.blank;
           header = more.header;
@@ -257,10 +260,10 @@ headed line t after (l ∷ ls) off on lead = go (words_of (without_comment l)) r
           cut = ap (λ (xs : List (List ℕ)). l ∷ xs) more.cut;
           are_blank = ap (λ (ws : List (List ℕ)). not (is_some_word ws) && list_all is_blank more.blank) is ∙ more.are_blank;
           is_first = more.is_first;
-          lead = subst (λ (n : ℕ). Leads n (record t { headed = true }) more.others after) (omega (arith)) more.lead;
+          lead = subst (λ (n : ℕ). LeadsBy model_grammar n (record t { headed = true }) more.others after) (omega (arith)) more.lead;
         }
     go (w ∷ ws) is e below =
-        let test = bind_ok (refuse_if (not (is_header (w ∷ ws))) cause.Header) _ lead.0 e in
+        let test = bind_ok (refused_where (not (is_header (w ∷ ws))) cause.Header) _ lead.0 e in
         let made : Taken = record t { headed = true } in
         let last : Ok made ≡ Ok lead.0 = test.2 in
         let same : made ≡ lead.0 = cc last in
@@ -271,7 +274,7 @@ headed line t after (l ∷ ls) off on lead = go (words_of (without_comment l)) r
           cut = refl;
           are_blank = refl;
           is_first = ap is_header is ∙ passed (is_header (w ∷ ws)) cause.Header test.0 test.1;
-          lead = subst (λ (n : ℕ). Leads n made ls after) (omega (arith)) (subst (λ (x : Taken). Leads (line + 1) x ls after) (sym same) lead.2);
+          lead = subst (λ (n : ℕ). LeadsBy model_grammar n made ls after) (omega (arith)) (subst (λ (x : Taken). LeadsBy model_grammar (line + 1) x ls after) (sym same) lead.2);
         }
 
 -- the model that is made at the end
@@ -286,7 +289,7 @@ record Ends (t : Taken) (m : ModelTree) : Type 0 where
 ends : (t : Taken) (m : ModelTree) → model_after t ≡ Ok m → Ends t m
 unfolding model_after
 ends t m e =
-    let test = bind_ok (refuse_if (not t.headed) cause.Header) _ m e in
+    let test = bind_ok (refused_where (not t.headed) cause.Header) _ m e in
     record { headed = passed t.headed cause.Header test.0 test.1; made = made_model (refusal_of_finish t.building) (built_model t.building) m test.2 }
 
 -- the goal of the lines with the marks of the goal that was given
@@ -296,9 +299,9 @@ goal_is (Some goal) = refl
 
 pub laid_out : LaidOut
 laid_out text m s =
-    let end = ends s.0 m s.2 in
-    let h = headed 1 nothing_taken s.0 (lines_of text) refl end.headed s.1 in
-    let grown = lines_add (1 + length h.blank + 1) (record nothing_taken { headed = true }) s.0 h.others refl h.lead in
+    let end = ends s.taken m s.gives in
+    let h = headed 1 nothing_taken s.taken (lines_of text) refl end.headed s.leads in
+    let grown = lines_add (1 + length h.blank + 1) (record nothing_taken { headed = true }) s.taken h.others refl h.lead in
     let line : 1 + length h.blank + 1 ≡ length h.blank + 2 = omega (arith) in
     record {
       blank = h.blank;
@@ -310,5 +313,5 @@ laid_out text m s =
       vars = ap (λ (x : ModelTree). x.vars) (sym end.made) ∙ grown.vars_after ∙ ap (λ (n : ℕ). vars_from n h.others) line;
       booleans = ap (λ (x : ModelTree). x.booleans) (sym end.made) ∙ grown.booleans_after ∙ ap (λ (n : ℕ). booleans_from n h.others) line;
       goal = subst (λ (xs : List ℕ). IsGoalOf xs m.goal) (grown.goals_after ∙ ap (λ (n : ℕ). goals_from n h.others) line)
-          (subst (λ (x : ModelTree). IsGoalOf (goal_marks s.0.building.goal) x.goal) end.made (goal_is s.0.building.goal));
+          (subst (λ (x : ModelTree). IsGoalOf (goal_marks s.taken.building.goal) x.goal) end.made (goal_is s.taken.building.goal));
     }

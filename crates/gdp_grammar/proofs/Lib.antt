@@ -2,8 +2,6 @@ pub mod Again
 pub mod Contexts
 pub mod Cutting
 pub mod Euclid
-pub mod Fed
-pub mod Followed
 pub mod FormsGiven
 pub mod Grown
 pub mod Holding
@@ -32,7 +30,6 @@ pub mod Rebuilt
 pub mod Respelled
 pub mod Scales
 pub mod Sums
-pub mod Threaded
 pub mod TreeLead
 pub mod Twice
 pub mod Unmarked

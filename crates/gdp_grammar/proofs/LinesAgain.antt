@@ -14,13 +14,17 @@ use Rattle.model_tree.specs.declared.tree.Mode.{Mode}
 use Rattle.model_tree.specs.declared.tree.Mode.TheVariants as mode
 use Rattle.model_tree.specs.Names.{begins_name, continues_name, is_name, has_name, has_name_shape, reserved_words}
 use Rattle.model_tree.specs.Variables.{VarValue, BooleanValue}
+use Rattle.text_grammar.specs.Lexers.{tokens_by}
 use Rattle.gdp_grammar.specs.declared.symbol.Symbol.TheVariants.{Plus, Minus, AtMost, AtLeast, Equal}
-use Rattle.gdp_grammar.specs.Canonical.{spaced, line_of, size_word, number_word, sign_word, end_word, kind_word, rel_word, mode_word, sense_word, var_line, boolean_line, name_in, further_terms, sum_words, constant_words, goal_words, disjunction_line}
+use Rattle.gdp_grammar.specs.Canonical.{size_word, number_word, end_word, kind_word, rel_word, mode_word, sense_word, var_line, boolean_line, name_in, further_terms, sum_words, constant_words, goal_words, disjunction_line}
+use Rattle.text_grammar.specs.Printing.{spaced, line_of, sign_word}
 use Rattle.gdp_grammar.specs.Forms.{Form, Var, Boolean, Goal, Row, Disjunction, Disjunct, End, Signed, Summand, form_of, signed_of, low_of, low_after, high_of, summand_of, joint_of, summands_within, summands_of, sum_of, var_of, boolean_of, row_of, terms_goal_of, number_goal_of, constant_of, disjunction_of, disjunct_of, end_of, is_nought, word_next, goal_of}
 use Rattle.gdp_grammar.specs.Keywords.{is_reserved}
 use Rattle.gdp_grammar.specs.Numerals.{Numeral, Whole, Fraction}
 use Rattle.gdp_grammar.specs.Tokens.{Piece, Word, Number, Mark, tokens_of}
-use Rattle.gdp_grammar.proofs.Again.{both, and_false, Reads, word_again, whole_again, fraction_again, plus_again, minus_again, minus_before, at_most_again, at_least_again, equal_again, words_again, last_again, first_again, decimal_digits}
+use Rattle.gdp_grammar.proofs.Again.{Reads, word_again, whole_again, fraction_again, plus_again, minus_again, minus_before, at_most_again, at_least_again, equal_again, words_again, last_again, first_again}
+use Rattle.text_grammar.proofs.Bools.{both, and_false}
+use Rattle.text_grammar.proofs.DigitsLemmas.{decimal_digits}
 
 -- how a number's magnitude is spelled, and the number with its sign
 abbrev pub numeral_for : fraction.Fraction → Numeral
@@ -204,7 +208,7 @@ disjunction_form_again m =
     ∙ disjunction_form_with m
 
 pub end_form_again : form_of (tokens_of (codes "end")) ≡ Ok End
-unfolding end_of tokens_of
+unfolding end_of tokens_of tokens_by
 end_form_again = ap form_of (first_again (codes "end") (Word (codes "end") ∷ []) [] (word_again 101 (codes "nd") refl refl))
 
 -- how a term is spelled, and its tokens
@@ -355,7 +359,7 @@ abbrev constant_pieces : fraction.Fraction → List Piece
 constant_pieces f = if unsigned_abs f.num == 0 then [] else sign_piece (int_lt f.num (pos 0)) ∷ Number (numeral_for f) ∷ []
 
 constant_tokens : (f : fraction.Fraction) → IsShort f → tokens_of (spaced (constant_words f)) ≡ constant_pieces f
-unfolding tokens_of
+unfolding tokens_of tokens_by
 constant_tokens f short = go (unsigned_abs f.num == 0)
   where
     go : (b : Bool) → tokens_of (spaced (if b then [] else sign_word f.num ∷ size_word f ∷ [])) ≡ (if b then [] else sign_piece (int_lt f.num (pos 0)) ∷ Number (numeral_for f) ∷ [])

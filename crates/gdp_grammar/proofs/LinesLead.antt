@@ -17,14 +17,18 @@ use Rattle.model_builder.specs.Building.{BuildingValue}
 use Rattle.model_tree.specs.Names.{begins_name, continues_name, is_digit, is_name, has_name, has_name_shape, reserved_words}
 use Rattle.model_tree.specs.Variables.{VarValue}
 use Rattle.gdp_grammar.specs.declared.cause.ReadCause.{ReadCause}
-use Rattle.gdp_grammar.specs.Canonical.{spaced, line_of, size_word, number_word, sign_word, end_word, kind_word, rel_word, sense_word, var_line, name_in, further_terms, sum_words, constant_words, goal_words, disjunction_line}
-use Rattle.gdp_grammar.specs.Causes.{◌>>=◌}
+use Rattle.gdp_grammar.specs.Canonical.{size_word, number_word, end_word, kind_word, rel_word, sense_word, var_line, name_in, further_terms, sum_words, constant_words, goal_words, disjunction_line}
+use Rattle.text_grammar.specs.Printing.{spaced, line_of, sign_word}
+use Rattle.text_grammar.specs.Outcomes.{◌>>=◌}
 use Rattle.gdp_grammar.specs.Forms.{Form, form_of}
 use Rattle.gdp_grammar.specs.Lines.{without_comment}
 use Rattle.gdp_grammar.specs.Reading.{Taken, with_form, with_tokens, with_content, with_line}
-use Rattle.gdp_grammar.specs.Spelling.{Leads}
+use Rattle.text_grammar.specs.Grammars.{LeadsBy}
+use Rattle.gdp_grammar.specs.Spelling.{model_grammar}
 use Rattle.gdp_grammar.specs.Tokens.{Piece, tokens_of}
-use Rattle.gdp_grammar.proofs.Again.{both, and_true, all_appended, all_weaker, is_printed, are_printed, without_comment_again, decimal_digits}
+use Rattle.gdp_grammar.proofs.Again.{is_printed, are_printed, without_comment_again}
+use Rattle.text_grammar.proofs.Bools.{both, and_true, all_appended, all_weaker}
+use Rattle.text_grammar.proofs.DigitsLemmas.{decimal_digits}
 use Rattle.gdp_grammar.proofs.LinesAgain.{IsShort, IsEndShort, AreTermsAgain}
 
 -- after the header
@@ -47,17 +51,17 @@ line_lead b next line bytes form printed e f =
     ap (λ c. with_content (headed b) line c) same ∙ tokens_lead b next line (tokens_of bytes) form e f
 
 -- lines after lines
-pub leads_then : (line after : ℕ) (xs ys : List (List ℕ)) (a b c : Taken) → after ≡ line + length xs → Leads line a xs b → Leads after b ys c → Leads line a (xs ++ ys) c
+pub leads_then : (line after : ℕ) (xs ys : List (List ℕ)) (a b c : Taken) → after ≡ line + length xs → LeadsBy model_grammar line a xs b → LeadsBy model_grammar after b ys c → LeadsBy model_grammar line a (xs ++ ys) c
 leads_then line after [] ys a b c at p q =
     let here : after ≡ line = at ∙ omega arith in
-    subst (λ (t : Taken). Leads line t ys c) (sym p) (subst (λ n. Leads n b ys c) here q)
+    subst (λ (t : Taken). LeadsBy model_grammar line t ys c) (sym p) (subst (λ n. LeadsBy model_grammar n b ys c) here q)
 leads_then line after (x ∷ xs) ys a b c at p q = (p.0, p.1, leads_then (line + 1) after xs ys p.0 b c (at ∙ omega arith) p.2 q)
 
-pub leads_one : (line : ℕ) (x : List ℕ) (a b : Taken) → with_line a line x ≡ Ok b → Leads line a (x ∷ []) b
+pub leads_one : (line : ℕ) (x : List ℕ) (a b : Taken) → with_line a line x ≡ Ok b → LeadsBy model_grammar line a (x ∷ []) b
 leads_one line x a b e = (b, e, refl)
 
-pub leads_to : (line : ℕ) (xs : List (List ℕ)) (a b c : Taken) → Leads line a xs b → b ≡ c → Leads line a xs c
-leads_to line xs a b c p e = subst (λ (t : Taken). Leads line a xs t) e p
+pub leads_to : (line : ℕ) (xs : List (List ℕ)) (a b c : Taken) → LeadsBy model_grammar line a xs b → b ≡ c → LeadsBy model_grammar line a xs c
+leads_to line xs a b c p e = subst (λ (t : Taken). LeadsBy model_grammar line a xs t) e p
 
 -- what the bytes of words are
 pub spaced_printed : (words : List (List ℕ)) → are_printed words ≡ true → list_all is_printed (spaced words) ≡ true

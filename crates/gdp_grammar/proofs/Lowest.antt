@@ -15,7 +15,7 @@ use Rattle.model_tree.specs.Scaling.{is_multiple}
 use Rattle.model_tree.proofs.ScalingLemmas.{divides, is_divided}
 use Rattle.gdp_grammar.specs.Lowest.{greatest_divisor, common_divisor, signed_as, over}
 use Rattle.int_linear.proofs.Ring.{neg_mul}
-use Rattle.gdp_grammar.proofs.Cutting.{told}
+use Rattle.text_grammar.proofs.Bools.{told}
 
 -- what the search down from k finds: a common divisor that no other up to k exceeds
 record IsGreatest (k a b d : ℕ) : Type 0 where

@@ -22,20 +22,23 @@ use Rattle.model_tree.specs.Values.{ModelTree}
 use Rattle.gdp_grammar.specs.declared.cause.ReadCause.{ReadCause}
 use Rattle.gdp_grammar.specs.declared.cause.ReadCause.TheVariants as cause
 use Rattle.gdp_grammar.specs.declared.class.Class.TheVariants as class
-use Rattle.gdp_grammar.specs.Causes.{refuse_if}
+use Rattle.text_grammar.specs.Outcomes.{refused_where}
 use Rattle.gdp_grammar.specs.Classes.{belongs, front, rest}
 use Rattle.gdp_grammar.specs.Declaring.{form_on}
 use Rattle.gdp_grammar.specs.Forms.{Form, Var, Boolean, Goal, Row, Logic, Disjunction, Disjunct, End, Signed, Summand, form_of}
-use Rattle.gdp_grammar.specs.Lines.{lines_of, without_comment}
+use Rattle.gdp_grammar.specs.Lines.{without_comment}
+use Rattle.text_grammar.specs.Lines.{lines_of}
 use Rattle.gdp_grammar.specs.Nested.{IsBlockOf, NestedAsSpelled}
 use Rattle.gdp_grammar.specs.Numerals.{value_of}
 use Rattle.gdp_grammar.specs.Owners.{Kinds, OtherLine, kind_in, kinds_from, kinds_of}
 use Rattle.gdp_grammar.specs.PropNames.{are_known, tree_in}
 use Rattle.gdp_grammar.specs.PropReading.{prop_of}
-use Rattle.gdp_grammar.specs.Reading.{Taken, nothing_taken, or_cause, end_of, after_call, with_var, terms_of, constant_value, with_goal, with_row, with_logic, with_form, is_header, with_header, with_tokens, with_content, with_line, finished, model_after}
-use Rattle.gdp_grammar.specs.Spelling.{Leads}
+use Rattle.gdp_grammar.specs.Reading.{Taken, nothing_taken, end_of, after_call, with_var, terms_of, constant_value, with_goal, with_row, with_logic, with_form, is_header, with_header, with_tokens, with_content, with_line, finished, model_after}
+use Rattle.text_grammar.specs.Outcomes.{or_cause}
+use Rattle.text_grammar.specs.Grammars.{LeadsBy}
+use Rattle.gdp_grammar.specs.Spelling.{model_grammar}
 use Rattle.gdp_grammar.specs.Tokens.{Piece, token_of, tokens_of}
-use Rattle.gdp_grammar.specs.Words.{words_of}
+use Rattle.text_grammar.specs.Words.{words_of}
 use Rattle.gdp_grammar.proofs.Holding.{Holds, holds_nothing, other_holds, row_holds, prop_holds, disjunction_holds, disjunct_holds, choice_ends, block_ends, root_nested}
 use Rattle.gdp_grammar.proofs.Pieces.{no_tokens, first_token, no_words, first_word}
 use Rattle.gdp_grammar.proofs.Sums.{bind_ok}
@@ -53,7 +56,7 @@ not_refused : {A B : Type 0} (old : B) (answer : A) (made new : B) (test : Bool)
 not_refused old answer made new true e = absurd (cc e)
 not_refused old answer made new false e = refl
 
-passed : (b : Bool) (cause : ReadCause) (u : Unit {0}) → refuse_if b cause ≡ Ok u → b ≡ false
+passed : (b : Bool) (cause : ReadCause) (u : Unit {0}) → refused_where b cause ≡ Ok u → b ≡ false
 passed true c u e = absurd (cc e)
 passed false c u e = refl
 
@@ -64,8 +67,8 @@ same_open kinds n b made new is h e = subst (λ (x : BuildingValue). Built kinds
 var_built : (kinds : Kinds) (n : ℕ) (b new : BuildingValue) (name : List ℕ) (kind : Kind) (low high : Option Signed) → kinds n ≡ OtherLine → Built kinds n b → with_var b n name kind low high ≡ Ok new → Built kinds (suc n) new
 unfolding with_var
 var_built kinds n b new name kind low high is h e =
-    let place = bind_ok (refuse_if (not (is_at_root b)) cause.Form) _ new e in
-    let free = bind_ok (refuse_if (is_taken name b) cause.NameTwice) _ new place.2 in
+    let place = bind_ok (refused_where (not (is_at_root b)) cause.Form) _ new e in
+    let free = bind_ok (refused_where (is_taken name b) cause.NameTwice) _ new place.2 in
     let lower = bind_ok (end_of low) _ new free.2 in
     let upper = bind_ok (end_of high) _ new lower.2 in
     let bound : Bound = record { low = lower.0; high = upper.0 } in
@@ -75,7 +78,7 @@ var_built kinds n b new name kind low high is h e =
 goal_built : (kinds : Kinds) (n : ℕ) (b new : BuildingValue) (sense : Sense) (sum : List Summand) (constant : Option Signed) → kinds n ≡ OtherLine → Built kinds n b → with_goal b n sense sum constant ≡ Ok new → Built kinds (suc n) new
 unfolding with_goal
 goal_built kinds n b new sense sum constant is h e =
-    let place = bind_ok (refuse_if (not (is_at_root b) || is_some b.goal) cause.Form) _ new e in
+    let place = bind_ok (refused_where (not (is_at_root b) || is_some b.goal) cause.Form) _ new e in
     let terms = bind_ok (terms_of b.vars sum) _ new place.2 in
     let number = bind_ok (or_cause cause.Number (constant_value constant)) _ new terms.2 in
     let made : BuildingValue = record b { goal = Some (stored_goal sense terms.0 number.0 n) } in
@@ -84,7 +87,7 @@ goal_built kinds n b new sense sum constant is h e =
 row_built : (kinds : Kinds) (n : ℕ) (b new : BuildingValue) (sum : List Summand) (rel : Rel) (right : Signed) → kinds n ≡ kind_in (Ok (Row sum rel right)) → Built kinds n b → with_row b n sum rel right ≡ Ok new → Built kinds (suc n) new
 unfolding with_row
 row_built kinds n b new sum rel right is h e =
-    let place = bind_ok (refuse_if (is_some b.opened) cause.Form) _ new e in
+    let place = bind_ok (refused_where (is_some b.opened) cause.Form) _ new e in
     let terms = bind_ok (terms_of b.vars sum) _ new place.2 in
     let number = bind_ok (or_cause cause.Number (value_of right.is_negative right.size)) _ new terms.2 in
     let row : RowValue = stored_row terms.0 rel number.0 in
@@ -95,9 +98,9 @@ row_built kinds n b new sum rel right is h e =
 logic_built : (kinds : Kinds) (n : ℕ) (b new : BuildingValue) (tokens : List Piece) → kinds n ≡ kind_in (Ok (Logic tokens)) → Built kinds n b → with_logic b n tokens ≡ Ok new → Built kinds (suc n) new
 unfolding with_logic
 logic_built kinds n b new tokens is h e =
-    let place = bind_ok (refuse_if (is_some b.opened) cause.Form) _ new e in
+    let place = bind_ok (refused_where (is_some b.opened) cause.Form) _ new e in
     let p = bind_ok (prop_of tokens) _ new place.2 in
-    let known = bind_ok (refuse_if (not (are_known b.booleans p.0)) cause.NameUnknown) _ new p.2 in
+    let known = bind_ok (refused_where (not (are_known b.booleans p.0)) cause.NameUnknown) _ new p.2 in
     let made : BuildingValue = record b { inner = record b.inner { props = b.inner.props ++ (tree_in b.booleans p.0, n) ∷ [] } } in
     subst (λ (x : BuildingValue). Built kinds (suc n) x) (called (refusal_of_prop (tree_in b.booleans p.0) b) b tt made new known.2)
     (prop_holds kinds n b.inner b.opened b.outer (tree_in b.booleans p.0) is (passed (is_some b.opened) cause.Form place.0 place.1) h)
@@ -199,7 +202,7 @@ header_built kinds n t next content [] are is h e =
     let same : t ≡ next = cc e in
     same_open kinds n t.building t.building next.building (is ∙ blank_form content are) h (ap (λ (x : Taken). x.building) same)
 header_built kinds n t next content (w ∷ ws) are is h e =
-    let test = bind_ok (refuse_if (not (is_header (w ∷ ws))) cause.Header) _ next e in
+    let test = bind_ok (refused_where (not (is_header (w ∷ ws))) cause.Header) _ next e in
     let made : Taken = record t { headed = true } in
     let last : Ok made ≡ Ok next = test.2 in
     let same : made ≡ next = cc last in
@@ -218,7 +221,7 @@ line_built kinds n t next l is h e = go t.headed refl e
     go false off e = header_built kinds n t next (without_comment l) (words_of (without_comment l)) refl is h (sym (cond-false t.headed _ _ off) ∙ e)
 
 -- lines one after the other
-lines_built : (all before : List (List ℕ)) (n : ℕ) (t after : Taken) (ls : List (List ℕ)) → all ≡ before ++ ls → n ≡ suc (length before) → Leads n t ls after → Built (kinds_from all) n t.building
+lines_built : (all before : List (List ℕ)) (n : ℕ) (t after : Taken) (ls : List (List ℕ)) → all ≡ before ++ ls → n ≡ suc (length before) → LeadsBy model_grammar n t ls after → Built (kinds_from all) n t.building
     → Built (kinds_from all) (n + length ls) after.building
 lines_built all before n t after [] cut number lead h =
     subst (λ (k : ℕ). Built (kinds_from all) k after.building) (omega arith) (subst (λ (x : Taken). Built (kinds_from all) n x.building) lead h)
@@ -246,7 +249,7 @@ record Ends (t : Taken) (m : ModelTree) : Type 0 where
 
 ends : (t : Taken) (m : ModelTree) → model_after t ≡ Ok m → Ends t m
 unfolding model_after
-ends t m e = go (is_at_root t.building) (is_empty t.building.vars) refl (bind_ok (refuse_if (not t.headed) cause.Header) _ m e).2
+ends t m e = go (is_at_root t.building) (is_empty t.building.vars) refl (bind_ok (refused_where (not t.headed) cause.Header) _ m e).2
   where
     go : (b v : Bool) → is_at_root t.building ≡ b → finished (refused_or (build_refuse_if (not b) refusal.Unclosed (build_refuse_if v refusal.Missing None)) (built_model t.building)) ≡ Ok m → Ends t m
     go true true is e = absurd (cc e)
@@ -266,12 +269,12 @@ pub nested_as_spelled : NestedAsSpelled
 nested_as_spelled text m s =
     let kinds : Kinds = kinds_of text in
     let start : Built kinds 1 nothing_taken.building = other_holds kinds 0 (empty_block 0 0) None [] refl (holds_nothing kinds) in
-    let built = lines_built (lines_of text) [] 1 nothing_taken s.0 (lines_of text) refl refl s.1 start in
+    let built = lines_built (lines_of text) [] 1 nothing_taken s.taken (lines_of text) refl refl s.leads start in
     let last : 1 + length (lines_of text) ≡ length (lines_of text) + 1 = omega arith in
-    let end = ends s.0 m s.2 in
-    let held = subst (λ (k : ℕ). Built kinds k s.0.building) last built in
+    let end = ends s.taken m s.gives in
+    let held = subst (λ (k : ℕ). Built kinds k s.taken.building) last built in
     record {
       nested = held.nested;
       root = subst (λ (x : ModelTree). IsBlockOf kinds (length (lines_of text) + 1) None x.root) end.made
-          (root_nested kinds (length (lines_of text) + 1) s.0.building.inner (at_root kinds (length (lines_of text) + 1) s.0.building s.0.building.opened s.0.building.outer end.root held));
+          (root_nested kinds (length (lines_of text) + 1) s.taken.building.inner (at_root kinds (length (lines_of text) + 1) s.taken.building s.taken.building.opened s.taken.building.outer end.root held));
     }

@@ -4,7 +4,7 @@ use Rattle.std.proofs.lemmas.Bool.Decides.{nat_tests}
 use Rattle.gdp_grammar.specs.Nested.{StandsIn, Ascends, AreOwned}
 use Rattle.gdp_grammar.specs.Stacks.{owner, same_owner, owned, OwnedFound}
 use Rattle.gdp_grammar.specs.Owners.{LineKind, Kinds, IsOwner, IsNested}
-use Rattle.gdp_grammar.proofs.Cutting.{told}
+use Rattle.text_grammar.proofs.Bools.{told}
 use Rattle.gdp_grammar.proofs.Owned.{owner_found, one_owner}
 use Rattle.gdp_grammar.proofs.Owning.{same_self, owned_other, owned_more}
 

@@ -1,5 +1,5 @@
 -- What the lines of a point text add to the point.
-use Rattle.std.proofs.Common.{◌≡◌, ◌≢◌, ℕ, zero, suc, ◌<◌, ℤ, pos, Bool, true, false, eqb, not, ◌&&◌, ◌||◌, List, [], ◌∷◌, map, replicate, length, get_or, set, codes, Option, Some, None, is_some, Result, Ok, Err, refl, ap, sym, subst, ◌∙◌, ◌⊎◌, inl, inr, arith}
+use Rattle.std.proofs.Common.{◌+◌, ◌≡◌, ◌≢◌, ℕ, zero, suc, ◌<◌, ℤ, pos, Bool, true, false, eqb, not, ◌&&◌, ◌||◌, List, [], ◌∷◌, map, replicate, length, get_or, set, codes, Option, Some, None, is_some, Result, Ok, Err, refl, ap, sym, subst, ◌∙◌, ◌⊎◌, inl, inr, arith}
 use Rattle.std.specs.Prelude.{bytes_eq}
 use Rattle.std.specs.List.{list_all}
 use Rattle.std.proofs.lemmas.Bool.{cond-true, cond-false}
@@ -11,15 +11,16 @@ use Rattle.model_tree.specs.Values.{ModelTree}
 use Rattle.model_tree.specs.Variables.{VarValue, BooleanValue}
 use Rattle.gdp_grammar.specs.declared.cause.ReadCause.{ReadCause}
 use Rattle.gdp_grammar.specs.declared.cause.ReadCause.TheVariants as cause
-use Rattle.gdp_grammar.specs.Causes.{refuse_if}
-use Rattle.gdp_grammar.specs.LineGrammars.{LeadsBy}
-use Rattle.gdp_grammar.specs.Lines.{lines_of, without_comment}
+use Rattle.text_grammar.specs.Outcomes.{refused_where}
+use Rattle.text_grammar.specs.Grammars.{LeadsBy}
+use Rattle.gdp_grammar.specs.Lines.{without_comment}
+use Rattle.text_grammar.specs.Lines.{lines_of}
 use Rattle.gdp_grammar.specs.PointDeclaring.{point_form_on, HasLine, LaidOutPoint}
 use Rattle.gdp_grammar.specs.PointForms.{Integer, PointForm, Over, Val, On, End, form_of_two, point_form_of}
 use Rattle.gdp_grammar.specs.PointReading.{PointTaken, no_point_taken, variable_at, boolean_at, has_number, is_on, has_line, integer_value, over_value, takes_names, with_over, with_val, with_on, with_end, with_point_form, with_point_header, with_point_words, with_point_line, with_first, all_numbers, point_after}
 use Rattle.gdp_grammar.specs.Points.{point_grammar}
-use Rattle.gdp_grammar.specs.Reading.{or_cause}
-use Rattle.gdp_grammar.specs.Words.{words_of, are_words}
+use Rattle.text_grammar.specs.Outcomes.{or_cause}
+use Rattle.text_grammar.specs.Words.{words_of, are_words}
 use Rattle.gdp_grammar.proofs.Sums.{bind_ok}
 
 -- A line that says this, or these lines, lead from one to the other: what they add, and what they keep.
@@ -56,7 +57,7 @@ adds_none m t next Says over numbers truths no_val no_on = record {
 abbrev SaysForm : Result PointForm ReadCause → PointForm → Type 0
 SaysForm read form = read ≡ Ok form
 
-pub passed : (b : Bool) (cause : ReadCause) (u : Unit {0}) → refuse_if b cause ≡ Ok u → b ≡ false
+pub passed : (b : Bool) (cause : ReadCause) (u : Unit {0}) → refused_where b cause ≡ Ok u → b ≡ false
 passed true c u e = absurd (cc e)
 passed false c u e = refl
 
@@ -75,7 +76,7 @@ none_is (Some d) e = absurd (cc e)
 over_adds : (m : ModelTree) (t next : PointTaken) (digits : List ℕ) → with_over t digits ≡ Ok next → Adds m t next (SaysForm (Ok (Over digits)))
 unfolding with_over
 over_adds m t next digits e =
-    let place = bind_ok (refuse_if (is_some t.over) cause.Form) _ next e in
+    let place = bind_ok (refused_where (is_some t.over) cause.Form) _ next e in
     let value = bind_ok (or_cause cause.Number (over_value digits)) _ next place.2 in
     let made : PointTaken = record t { over = Some value.0 } in
     let last : Ok made ≡ Ok next = value.2 in
@@ -116,8 +117,8 @@ no_number numbers (Some i) id v is none some =
 val_adds : (m : ModelTree) (t next : PointTaken) (name : List ℕ) (number : Integer) → length t.numbers ≡ length m.vars → with_val m t name number ≡ Ok next → Adds m t next (SaysForm (Ok (Val name number)))
 unfolding with_val
 val_adds m t next name number sized e =
-    let place = bind_ok (refuse_if (not (takes_names t)) cause.Form) _ next e in
-    let twice = bind_ok (refuse_if (has_line m t name) cause.NameTwice) _ next place.2 in
+    let place = bind_ok (refused_where (not (takes_names t)) cause.Form) _ next e in
+    let twice = bind_ok (refused_where (has_line m t name) cause.NameTwice) _ next place.2 in
     let id = bind_ok (or_cause cause.NameUnknown (variable_at m name)) _ next twice.2 in
     let value = bind_ok (or_cause cause.Number (integer_value number)) _ next id.2 in
     let made : PointTaken = record t { numbers = set t.numbers id.0 (Some value.0) } in
@@ -171,8 +172,8 @@ val_adds m t next name number sized e =
 on_adds : (m : ModelTree) (t next : PointTaken) (name : List ℕ) → length t.truths ≡ length m.booleans → with_on m t name ≡ Ok next → Adds m t next (SaysForm (Ok (On name)))
 unfolding with_on
 on_adds m t next name sized e =
-    let place = bind_ok (refuse_if (not (takes_names t)) cause.Form) _ next e in
-    let twice = bind_ok (refuse_if (has_line m t name) cause.NameTwice) _ next place.2 in
+    let place = bind_ok (refused_where (not (takes_names t)) cause.Form) _ next e in
+    let twice = bind_ok (refused_where (has_line m t name) cause.NameTwice) _ next place.2 in
     let id = bind_ok (or_cause cause.NameUnknown (boolean_at m name)) _ next twice.2 in
     let made : PointTaken = record t { truths = set t.truths id.0 true } in
     let last : Ok made ≡ Ok next = id.2 in
@@ -210,8 +211,8 @@ on_adds m t next name sized e =
 end_adds : (m : ModelTree) (t next : PointTaken) → with_end t ≡ Ok next → Adds m t next (SaysForm (Ok End))
 unfolding with_end
 end_adds m t next e =
-    let place = bind_ok (refuse_if (not (takes_names t)) cause.Form) _ next e in
-    let missing = bind_ok (refuse_if (not (list_all is_some t.numbers)) cause.Missing) _ next place.2 in
+    let place = bind_ok (refused_where (not (takes_names t)) cause.Form) _ next e in
+    let missing = bind_ok (refused_where (not (list_all is_some t.numbers)) cause.Missing) _ next place.2 in
     let made : PointTaken = record t { ended = true } in
     let last : Ok made ≡ Ok next = missing.2 in
     let same : made ≡ next = cc last in
@@ -255,7 +256,7 @@ words_add m t next (w ∷ ws) sized flagged e =
 header_adds : (m : ModelTree) (t next : PointTaken) (ws : List (List ℕ)) → with_point_header t ws ≡ Ok next → Adds m t next (SaysForm (point_form_of ws))
 header_adds m t next [] e = adds_same m t next (SaysForm (point_form_of [])) (cc e) (λ name number says. absurd (cc says)) (λ name says. absurd (cc says))
 header_adds m t next (w ∷ ws) e =
-    let test = bind_ok (refuse_if (not (are_words (w ∷ ws) (codes "gdp-point") (codes "1"))) cause.Header) _ next e in
+    let test = bind_ok (refused_where (not (are_words (w ∷ ws) (codes "gdp-point") (codes "1"))) cause.Header) _ next e in
     let made : PointTaken = record t { headed = true } in
     let last : Ok made ≡ Ok next = test.2 in
     let same : made ≡ next = cc last in
@@ -305,11 +306,11 @@ both_add m t next after l ls one more = record {
   ];
 }
 
-pub lines_add : (m : ModelTree) (t after : PointTaken) (ls : List (List ℕ)) → length t.numbers ≡ length m.vars → length t.truths ≡ length m.booleans → LeadsBy (point_grammar m) t ls after → Adds m t after (HasLine ls)
-lines_add m t after [] sized flagged e = adds_same m t after (HasLine []) e (λ name number says. says) (λ name says. says)
-lines_add m t after (l ∷ ls) sized flagged lead =
+pub lines_add : (m : ModelTree) (n : ℕ) (t after : PointTaken) (ls : List (List ℕ)) → length t.numbers ≡ length m.vars → length t.truths ≡ length m.booleans → LeadsBy (point_grammar m) n t ls after → Adds m t after (HasLine ls)
+lines_add m n t after [] sized flagged e = adds_same m t after (HasLine []) e (λ name number says. says) (λ name says. says)
+lines_add m n t after (l ∷ ls) sized flagged lead =
     let one = line_adds m t lead.0 l sized flagged lead.1 in
-    both_add m t lead.0 after l ls one (lines_add m lead.0 after ls (one.as_long ∙ sized) (one.as_many ∙ flagged) lead.2)
+    both_add m t lead.0 after l ls one (lines_add m (n + 1) lead.0 after ls (one.as_long ∙ sized) (one.as_many ∙ flagged) lead.2)
 
 -- the numbers where all are there
 abbrev some_of : ℤ → Option ℤ
@@ -362,8 +363,8 @@ ends : (t : PointTaken) (point : PointValue) (truths : List Bool) → point_afte
 unfolding point_after
 ends t point truths e =
     let given : PointValue × List Bool = (point, truths) in
-    let headed = bind_ok (refuse_if (not t.headed) cause.Header) _ given e in
-    let ended = bind_ok (refuse_if (not t.ended) cause.Missing) _ given headed.2 in
+    let headed = bind_ok (refused_where (not t.headed) cause.Header) _ given e in
+    let ended = bind_ok (refused_where (not t.ended) cause.Missing) _ given headed.2 in
     let over = bind_ok (or_cause cause.Missing t.over) _ given ended.2 in
     let nums = bind_ok (or_cause cause.Missing (all_numbers t.numbers)) _ given over.2 in
     let made : PointValue × List Bool = (record { over = over.0; nums = nums.0 }, t.truths) in
@@ -379,7 +380,7 @@ pub laid_out_point : LaidOutPoint
 laid_out_point m text point truths s =
     let sized : length (no_point_taken m).numbers ≡ length m.vars = length-replicate (length m.vars) no_value in
     let flagged : length (no_point_taken m).truths ≡ length m.booleans = length-replicate (length m.booleans) false in
-    let added = lines_add m (no_point_taken m) s.taken (lines_of text) sized flagged s.leads in
+    let added = lines_add m 1 (no_point_taken m) s.taken (lines_of text) sized flagged s.leads in
     let end = ends s.taken point truths s.gives in
     let number_there = λ (id : ℕ) (v : ℤ) (e : get_or s.taken.numbers id None ≡ Some v). value_at point.nums id v (ap (λ (ns : List (Option ℤ)). get_or ns id None) (sym end.numbers_are) ∙ e) in
     record {

@@ -6,7 +6,8 @@ use Rattle.model_tree.specs.Tree.{DisjunctHead, BlockTree, block, below, below_d
 use Rattle.std.proofs.lemmas.List.{map-append}
 use Rattle.model_tree.specs.Values.{ModelTree}
 use Rattle.model_tree.specs.View.{disjuncts_of, disjunctions_of, disjunct_of, disjunction_of, rows_in, props_in, disjunctions_in}
-use Rattle.gdp_grammar.specs.Canonical.{spaced, text_of, disjunctions_lines, disjuncts_lines, lines_of_disjunction, lines_of_disjunct, disjunction_line, disjunct_line, block_lines, numbers_of, row_line, logic_line, var_line, boolean_line, free_booleans, goal_line, canonical_lines}
+use Rattle.gdp_grammar.specs.Canonical.{disjunctions_lines, disjuncts_lines, lines_of_disjunction, lines_of_disjunct, disjunction_line, disjunct_line, block_lines, numbers_of, row_line, logic_line, var_line, boolean_line, free_booleans, goal_line, canonical_lines}
+use Rattle.text_grammar.specs.Printing.{spaced, text_of}
 
 pub text_appended : (xs ys : List (List ℕ)) → text_of (xs ++ ys) ≡ text_of xs ++ text_of ys
 text_appended [] ys = refl

@@ -9,14 +9,18 @@ use Rattle.propositions.specs.Tree as tree
 use Rattle.propositions.specs.Truth.{are_ids_below, are_all_ids_below}
 use Rattle.model_tree.specs.Names.{begins_name, continues_name, is_digit, is_name, has_name, has_name_shape, reserved_words}
 use Rattle.model_tree.specs.Variables.{BooleanValue}
+use Rattle.text_grammar.specs.Lexers.{tokens_by}
 use Rattle.gdp_grammar.specs.declared.class.Class.TheVariants as class
 use Rattle.gdp_grammar.specs.declared.symbol.Symbol.TheVariants.{Open, Close, Comma}
-use Rattle.gdp_grammar.specs.Canonical.{line_of}
+use Rattle.text_grammar.specs.Printing.{line_of}
 use Rattle.gdp_grammar.specs.Numerals.{Whole}
 use Rattle.gdp_grammar.specs.PropNames.{opening_text, prop_text, arguments_text, further_text, list_operator, named_in, all_named_in}
 use Rattle.gdp_grammar.specs.PropTexts.{exactly, at_least, at_most, Operator, negation, pair, all, some, counted, NamedProp, named, applied, NamedProps, no_arguments, argument, opening, pieces_of, pieces_of_arguments, pieces_of_further}
 use Rattle.gdp_grammar.specs.Tokens.{Word, Number, Mark, numeral_of, token_of, tokens_of}
-use Rattle.gdp_grammar.proofs.Again.{both, and_true, all_appended, all_weaker, is_printed, Stops, AreDigits, word_stops, whole_stops, decimal_digits}
+use Rattle.gdp_grammar.proofs.Again.{is_printed, Stops, word_stops, whole_stops}
+use Rattle.text_grammar.proofs.Bools.{both, and_true, all_appended, all_weaker}
+use Rattle.text_grammar.specs.Digits.{AreDigits}
+use Rattle.text_grammar.proofs.DigitsLemmas.{decimal_digits}
 use Rattle.gdp_grammar.proofs.LinesLead.{name_byte, start_byte, digit_byte, line_printed}
 use Rattle.gdp_grammar.proofs.Pieces.{blank_before, token_before}
 use Rattle.gdp_grammar.proofs.PropNamed.{AreNamed, named_name, max_first, max_second, below}
@@ -124,7 +128,7 @@ mutual
       ∙ ap (λ ts. Mark Comma ∷ ts) (sym (append_assoc (pieces_of p) (pieces_of_further ps) (Mark Close ∷ tokens_of after)))
 
 pub whole_text_tokens : (p : NamedProp) → has_fair_names p ≡ true → tokens_of (prop_text p) ≡ pieces_of p
-unfolding tokens_of
+unfolding tokens_of tokens_by
 whole_text_tokens p e = ap tokens_of (sym (append-nil (prop_text p))) ∙ text_tokens p [] e tt ∙ append-nil (pieces_of p)
 
 -- the line of a proposition

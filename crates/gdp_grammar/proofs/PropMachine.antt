@@ -13,7 +13,7 @@ use Rattle.gdp_grammar.specs.Numerals.{Whole}
 use Rattle.gdp_grammar.specs.PropTexts.{exactly, at_least, at_most, Operator, negation, pair, all, some, counted, NamedProp, named, applied, NamedProps, no_arguments, argument, pair_word, counting_word, opening, pieces_of, pieces_of_arguments, pieces_of_further, argument_count, takes, is_formed, are_formed}
 use Rattle.gdp_grammar.specs.PropReading.{Making, OperatorWord, plain, counting, operator_of, Place, wants, opens, counts, parts, has, after_word, on, closing, step_of, going_on, made_of, arguments, application, by_names, prop_of, PropositionsRead}
 use Rattle.gdp_grammar.specs.Tokens.{Piece, Word, Number, Mark}
-use Rattle.gdp_grammar.proofs.Again.{both, and_true, not_true}
+use Rattle.text_grammar.proofs.Bools.{both, and_true, not_true}
 
 pub neither : (a b : Bool) → (a || b) ≡ false → (a ≡ false) × (b ≡ false)
 neither true b e = absurd (cc e)

@@ -11,7 +11,8 @@ use Rattle.model_tree.specs.Variables.{BooleanValue}
 use Rattle.gdp_grammar.specs.Keywords.{is_reserved}
 use Rattle.gdp_grammar.specs.PropNames.{boolean_number, are_known, are_all_known, combined, tree_in, trees_in, list_operator, named_in, all_named_in}
 use Rattle.gdp_grammar.specs.PropTexts.{argument_count, takes, is_formed, are_formed}
-use Rattle.gdp_grammar.proofs.Again.{both, and_true, decimal_value}
+use Rattle.text_grammar.proofs.Bools.{both, and_true}
+use Rattle.text_grammar.proofs.DigitsLemmas.{decimal_value}
 use Rattle.gdp_grammar.proofs.PropMachine.{neither}
 use Rattle.gdp_grammar.proofs.Rebuilt.{name_within, position_is}
 

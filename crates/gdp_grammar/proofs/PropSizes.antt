@@ -8,11 +8,11 @@ use Rattle.propositions.specs.Sizes.{depth_of, depth_within, node_count_of, node
 use Rattle.propositions.specs.Tree.{PairConnective, ListConnective, all_of, some_of, PropTree, negated, paired, listed, PropTrees, no_props, prop}
 use Rattle.propositions.specs.Truth.{are_ids_below, are_all_ids_below}
 use Rattle.model_tree.specs.Variables.{BooleanValue}
-use Rattle.gdp_grammar.specs.Numerals.{decimal}
+use Rattle.text_grammar.specs.Digits.{value_after}
 use Rattle.gdp_grammar.specs.PropNames.{boolean_number, are_known, are_all_known, counting_connective, combined, tree_in, trees_in}
 use Rattle.gdp_grammar.specs.PropSizes.{named_depth, named_depth_within, named_nodes, named_nodes_within, named_most, named_most_within, number_in, named_greatest, named_greatest_within}
 use Rattle.gdp_grammar.specs.PropTexts.{Counting, exactly, at_least, at_most, Operator, negation, pair, all, some, counted, NamedProp, named, applied, NamedProps, no_arguments, argument, argument_count, takes, is_formed, are_formed}
-use Rattle.gdp_grammar.proofs.Again.{both, and_true}
+use Rattle.text_grammar.proofs.Bools.{both, and_true}
 
 -- arguments that are not one, and not two
 pub more_than_one : (n : ℕ) → (suc (suc n) == 1) ≡ false
@@ -38,7 +38,7 @@ by_shape P one two more all (prop p ps) e = more all all_of p ps refl
 by_shape P one two more some no_props e = absurd (cc e)
 by_shape P one two more some (prop p ps) e = more some some_of p ps refl
 by_shape P one two more (counted c digits) no_props e = absurd (cc e)
-by_shape P one two more (counted c digits) (prop p ps) e = more (counted c digits) (counting_connective c (decimal 0 digits)) p ps (number_is c (decimal 0 digits))
+by_shape P one two more (counted c digits) (prop p ps) e = more (counted c digits) (counting_connective c (value_after 0 digits)) p ps (number_is c (value_after 0 digits))
   where
     number_is : (c : Counting) (n : ℕ) → number_of (counting_connective c n) ≡ n
     number_is exactly n = refl

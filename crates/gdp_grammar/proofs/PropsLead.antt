@@ -22,8 +22,10 @@ use Rattle.gdp_grammar.specs.PropNames.{named_in, are_known, tree_in}
 use Rattle.gdp_grammar.specs.PropReading.{prop_of}
 use Rattle.gdp_grammar.specs.PropTexts.{NamedProp, pieces_of}
 use Rattle.gdp_grammar.specs.Reading.{with_logic, with_line}
-use Rattle.gdp_grammar.specs.Spelling.{Leads}
-use Rattle.gdp_grammar.proofs.Again.{both, and_true, is_printed, are_printed}
+use Rattle.text_grammar.specs.Grammars.{LeadsBy}
+use Rattle.gdp_grammar.specs.Spelling.{model_grammar}
+use Rattle.gdp_grammar.proofs.Again.{is_printed, are_printed}
+use Rattle.text_grammar.proofs.Bools.{both, and_true}
 use Rattle.gdp_grammar.proofs.Contexts.{IsContext, in_block}
 use Rattle.gdp_grammar.proofs.LinesLead.{headed, line_lead, leads_to}
 use Rattle.gdp_grammar.proofs.PropAgain.{fair_named, logic_line_tokens, logic_line_printed}
@@ -133,7 +135,7 @@ props_printed m vs bs (q ∷ qs) ctx first ids sound =
 
 pub props_lead : (m : ModelTree) (vs : List VarValue) (g : Option GoalValue) (bs : List BooleanValue) (o : OpenBlock) (os : List (OpenBlock × OpenDisjunction)) (line : ℕ) (qs : List (PropTree × ℕ)) → IsContext m vs
     → names_in bs ≡ take (length bs) (boolean_names m) → name_only_first (length bs) qs ≡ true → are_props_sound (length m.booleans) qs ≡ true → nodes_so_far (in_block vs g bs o os) + nodes_of_props qs ≤ 5000
-    → Leads line (headed (in_block vs g bs o os)) (map (logic_line m) qs) (headed (in_block vs g bs (record o { props = o.props ++ props_at line qs }) os))
+    → LeadsBy model_grammar line (headed (in_block vs g bs o os)) (map (logic_line m) qs) (headed (in_block vs g bs (record o { props = o.props ++ props_at line qs }) os))
 unfolding props_at
 props_lead m vs g bs o os line [] ctx first ids sound few = ap (λ l. headed (in_block vs g bs (record o { props = l }) os)) (sym (append-nil o.props))
 props_lead m vs g bs o os line (q ∷ qs) ctx first ids sound few =

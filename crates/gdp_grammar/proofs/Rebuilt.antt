@@ -18,7 +18,8 @@ use Rattle.gdp_grammar.specs.Forms.{Summand}
 use Rattle.gdp_grammar.specs.Lowest.{over}
 use Rattle.gdp_grammar.specs.Numerals.{Whole, Fraction, over_part, under_part, are_parts, signed, lowest, ratio, value_of}
 use Rattle.gdp_grammar.specs.Reading.{id_of, named, stands_in, has_twice, known_terms, valued_terms, terms_of, end_of}
-use Rattle.gdp_grammar.proofs.Again.{both, decimal_value}
+use Rattle.text_grammar.proofs.Bools.{both}
+use Rattle.text_grammar.proofs.DigitsLemmas.{decimal_value}
 use Rattle.gdp_grammar.proofs.Euclid.{lowest_only}
 use Rattle.gdp_grammar.proofs.LinesAgain.{IsShort, IsEndShort, AreTermsAgain, numeral_for, end_for, summand_for, summands_for}
 

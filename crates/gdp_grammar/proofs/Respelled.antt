@@ -20,17 +20,21 @@ use Rattle.model_tree.specs.Tree.{DisjunctHead, below, block}
 use Rattle.model_tree.specs.Values.{GoalValue, ModelTree}
 use Rattle.model_tree.specs.Variables.{VarValue, BooleanValue}
 use Rattle.model_tree.specs.View.{disjunctions}
-use Rattle.gdp_grammar.specs.Canonical.{text_of, line_of, sense_word, goal_words, var_names, boolean_names, terms_over, var_line, boolean_line, goal_line, block_lines, numbers_of, free_from, free_booleans, canonical_lines, canonical_text}
+use Rattle.text_grammar.specs.Lexers.{tokens_by}
+use Rattle.gdp_grammar.specs.Canonical.{sense_word, goal_words, var_names, boolean_names, terms_over, var_line, boolean_line, goal_line, block_lines, numbers_of, free_from, free_booleans, canonical_lines, canonical_text}
+use Rattle.text_grammar.specs.Printing.{text_of, line_of}
 use Rattle.gdp_grammar.specs.CanonicalLaws.{unmarked_vars, unmarked_booleans, unmarked_goal, unmarked_block, AreSame, CanonicalSpells, CanonicalAgain}
 use Rattle.model_tree.specs.Sound.{is_stored}
 use Rattle.gdp_grammar.specs.Forms.{Var, Boolean}
-use Rattle.gdp_grammar.specs.Lines.{lines_of}
+use Rattle.text_grammar.specs.Lines.{lines_of}
 use Rattle.gdp_grammar.specs.Lowest.{over}
 use Rattle.gdp_grammar.specs.Reading.{nothing_taken, with_line, model_after}
-use Rattle.gdp_grammar.specs.Spelling.{Leads, Spells}
+use Rattle.text_grammar.specs.Grammars.{LeadsBy}
+use Rattle.gdp_grammar.specs.Spelling.{model_grammar, Spells}
 use Rattle.gdp_grammar.specs.Tokens.{token_of, tokens_of}
-use Rattle.gdp_grammar.specs.Words.{words_of}
-use Rattle.gdp_grammar.proofs.Again.{both, and_true, is_printed, are_printed, text_lines_again}
+use Rattle.text_grammar.specs.Words.{words_of}
+use Rattle.gdp_grammar.proofs.Again.{is_printed, are_printed, text_lines_again}
+use Rattle.text_grammar.proofs.Bools.{both, and_true}
 use Rattle.gdp_grammar.proofs.FormsGiven.{AreWhole, var_given, boolean_given, goal_given, row_whole, terms_fit, fit_over}
 use Rattle.gdp_grammar.proofs.LinesAgain.{IsShort, var_form_again, boolean_form_again, goal_form_again, goal_form, end_for}
 use Rattle.gdp_grammar.proofs.LinesLead.{headed, line_lead, leads_then, leads_to, var_printed, named_printed, goal_printed, words_appended}
@@ -94,7 +98,7 @@ limit_boolean n h = grind (arith, nat_tests)
 
 -- the lines of variables lead on, and are printed
 record VarsGiven (done vs : List VarValue) (line : ℕ) : Type 0 where
-  leads : Leads line (headed (declared done None [])) (map var_line vs) (headed (declared (done ++ vars_at line vs) None []))
+  leads : LeadsBy model_grammar line (headed (declared done None [])) (map var_line vs) (headed (declared (done ++ vars_at line vs) None []))
   printed : are_printed (map var_line vs) ≡ true
 
 or_nothing : (a : Bool) → a ≡ false → (a || false) ≡ false
@@ -140,7 +144,7 @@ booleans_at_names line [] = refl
 booleans_at_names line (b ∷ bs) = ap (λ l. b.0 ∷ l) (booleans_at_names (line + 1) bs)
 
 record BooleansGiven (vs : List VarValue) (done bs : List BooleanValue) (line : ℕ) : Type 0 where
-  leads : Leads line (headed (declared vs None done)) (map boolean_line bs) (headed (declared vs None (done ++ booleans_at line bs)))
+  leads : LeadsBy model_grammar line (headed (declared vs None done)) (map boolean_line bs) (headed (declared vs None (done ++ booleans_at line bs)))
   printed : are_printed (map boolean_line bs) ≡ true
 
 booleans_lead : (vs : List VarValue) (done bs : List BooleanValue) (line : ℕ) (rest : List (List ℕ))
@@ -321,7 +325,7 @@ goal_lead m vs bs line vars differ w =
     }
 
 header_lead : with_line nothing_taken 1 (codes "gdp 1") ≡ Ok (headed new_building)
-unfolding with_line words_of tokens_of token_of
+unfolding with_line words_of tokens_of token_of tokens_by
 header_lead = refl
 
 -- what was declared, put together
@@ -370,10 +374,10 @@ whole m sound stored =
     ap (λ x. names_earlier x m.root) (omega (arith, bs_length, heads_in)) ∙ sound.earlier in
     let t = block_lead m vs (Some g.goal) bs (empty_block 0 0) [] (line3 + 1) m.root [] ctx first (omega (arith, sound.few_rows)) (omega (arith, sound.few_nodes)) sound.shallow sound.root stored earlier in
     let last : BuildingValue = in_block vs (Some g.goal) (bs ++ t.more) (record (empty_block 0 0) { rows = t.rows; props = t.props; closed = t.closed }) [] in
-    let tail : Leads line3 (headed (declared vs None bs)) (goal_line m ∷ block_lines m m.root) (headed last) = (headed (declared vs (Some g.goal) bs), g.leads, t.leads) in
-    let middle : Leads line2 (headed (declared vs None [])) (map boolean_line free ++ goal_line m ∷ block_lines m m.root) (headed last) =
+    let tail : LeadsBy model_grammar line3 (headed (declared vs None bs)) (goal_line m ∷ block_lines m m.root) (headed last) = (headed (declared vs (Some g.goal) bs), g.leads, t.leads) in
+    let middle : LeadsBy model_grammar line2 (headed (declared vs None [])) (map boolean_line free ++ goal_line m ∷ block_lines m m.root) (headed last) =
     leads_then line2 line3 (map boolean_line free) (goal_line m ∷ block_lines m m.root) _ _ _ refl b.leads tail in
-    let all : Leads 1 nothing_taken (canonical_lines m) (headed last) =
+    let all : LeadsBy model_grammar 1 nothing_taken (canonical_lines m) (headed last) =
     (headed new_building, header_lead, leads_then 2 line2 (map var_line m.vars) (map boolean_line free ++ goal_line m ∷ block_lines m m.root) _ _ _ refl v.leads middle) in
     let printed : are_printed (canonical_lines m) ≡ true =
     words_appended (map var_line m.vars) (map boolean_line free ++ goal_line m ∷ block_lines m m.root) v.printed
@@ -388,7 +392,7 @@ whole m sound stored =
     ∙ sym (named_booleans m.booleans) in
     record {
       spelled = built_model last;
-      spells = (headed last, subst (λ ls. Leads 1 nothing_taken ls (headed last)) (sym lines) all, finish_lead last refl refl some);
+      spells = record { taken = headed last; leads = subst (λ ls. LeadsBy model_grammar 1 nothing_taken ls (headed last)) (sym lines) all; gives = finish_lead last refl refl some };
       same =
           ap (λ x. record { vars = x; booleans = unmarked_booleans (bs ++ t.more); goal = unmarked_goal g.goal; root = unmarked_block (block (record { rows = t.rows; props = t.props }) (disjunctions t.closed)) }) (vars_at_same 2 m.vars)
           ∙ ap (λ x. record { vars = unmarked_vars m.vars; booleans = x; goal = unmarked_goal g.goal; root = unmarked_block (block (record { rows = t.rows; props = t.props }) (disjunctions t.closed)) }) booleans_same

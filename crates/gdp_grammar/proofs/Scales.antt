@@ -15,7 +15,7 @@ use Rattle.model_tree.proofs.ScalingLemmas.{divides, is_divided, least_scale_is,
 use Rattle.gdp_grammar.specs.Canonical.{terms_over}
 use Rattle.gdp_grammar.specs.Lowest.{common_divisor, signed_as, over}
 use Rattle.gdp_grammar.specs.Numerals as numerals
-use Rattle.gdp_grammar.proofs.Again.{both, and_true}
+use Rattle.text_grammar.proofs.Bools.{both, and_true}
 use Rattle.gdp_grammar.proofs.Euclid.{common_divisor_is}
 use Rattle.gdp_grammar.proofs.Lowest.{greatest_is_gcd, signed_times}
 

@@ -3,7 +3,7 @@ use Rattle.std.proofs.Common.{◌≡◌, ℕ, zero, suc, ◌<◌, ◌≤◌, Boo
 use Rattle.std.proofs.lemmas.List.{append_assoc, length-drop}
 use Rattle.gdp_grammar.specs.declared.cause.ReadCause.{ReadCause}
 use Rattle.gdp_grammar.specs.declared.cause.ReadCause.TheVariants as cause
-use Rattle.gdp_grammar.specs.Causes.{◌>>=◌}
+use Rattle.text_grammar.specs.Outcomes.{◌>>=◌}
 use Rattle.gdp_grammar.specs.Forms.{Summand, name_of, summand_of, joint_of, joined, summands_within}
 use Rattle.gdp_grammar.specs.Keywords.{is_reserved}
 use Rattle.gdp_grammar.specs.Tokens.{Piece, Word, Number, Mark, Stray}

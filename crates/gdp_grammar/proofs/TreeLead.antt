@@ -23,9 +23,11 @@ use Rattle.model_tree.specs.Sound.{are_rows_stored, is_stored, are_disjunctions_
 use Rattle.gdp_grammar.specs.Forms.{Row, Disjunction, Disjunct, End}
 use Rattle.gdp_grammar.specs.Lowest.{over}
 use Rattle.gdp_grammar.specs.Reading.{with_form, with_line}
-use Rattle.gdp_grammar.specs.Spelling.{Leads}
+use Rattle.text_grammar.specs.Grammars.{LeadsBy}
+use Rattle.gdp_grammar.specs.Spelling.{model_grammar}
 use Rattle.gdp_grammar.proofs.Contexts.{IsContext, in_block, in_disjunction, AreFirst, names_length, booleans_length}
-use Rattle.gdp_grammar.proofs.Again.{both, and_true, is_printed, are_printed}
+use Rattle.gdp_grammar.proofs.Again.{is_printed, are_printed}
+use Rattle.text_grammar.proofs.Bools.{both, and_true}
 use Rattle.gdp_grammar.proofs.FormsGiven.{row_given, row_whole, terms_fit, fit_over}
 use Rattle.gdp_grammar.proofs.LinesAgain.{row_form_again, disjunction_form_again, disjunct_form_again, end_form_again, summands_for, signed_for}
 use Rattle.gdp_grammar.proofs.LinesLead.{headed, line_lead, leads_then, leads_to, row_printed, disjunction_printed, named_printed, words_appended}
@@ -92,7 +94,7 @@ rows_printed m vs (r ∷ rs) ctx ids stored =
 
 pub rows_lead : (m : ModelTree) (vs : List VarValue) (g : Option GoalValue) (bs : List BooleanValue) (o : OpenBlock) (os : List (OpenBlock × OpenDisjunction)) (line : ℕ) (rs : List (RowValue × ℕ)) → IsContext m vs
     → are_rows_below (length m.vars) rs ≡ true → are_rows_stored rs ≡ true → rows_so_far (in_block vs g bs o os) + length rs ≤ 1000
-    → Leads line (headed (in_block vs g bs o os)) (map (row_line m) rs) (headed (in_block vs g bs (record o { rows = o.rows ++ rows_at line rs }) os))
+    → LeadsBy model_grammar line (headed (in_block vs g bs o os)) (map (row_line m) rs) (headed (in_block vs g bs (record o { rows = o.rows ++ rows_at line rs }) os))
 unfolding rows_at
 rows_lead m vs g bs o os line [] ctx ids stored few = ap (λ l. headed (in_block vs g bs (record o { rows = l }) os)) (sym (append-nil o.rows))
 rows_lead m vs g bs o os line (r ∷ rs) ctx ids stored few =
@@ -251,7 +253,7 @@ split_at (x ∷ xs) (suc n) h = ap (λ l. x ∷ l) (split_at xs n (omega (arith,
 pub record DisjunctionsGiven (m : ModelTree) (vs : List VarValue) (g : Option GoalValue) (bs : List BooleanValue) (o : OpenBlock) (os : List (OpenBlock × OpenDisjunction)) (line : ℕ) (ds : Disjunctions) (later : List DisjunctHead) : Type 0 where
   pub more : List BooleanValue
   pub closed : List DisjunctionTree
-  pub leads : Leads line (headed (in_block vs g bs o os)) (disjunctions_lines m ds) (headed (in_block vs g (bs ++ more) (record o { closed = o.closed ++ closed }) os))
+  pub leads : LeadsBy model_grammar line (headed (in_block vs g bs o os)) (disjunctions_lines m ds) (headed (in_block vs g (bs ++ more) (record o { closed = o.closed ++ closed }) os))
   pub same : unmarked_disjunctions (disjunctions closed) ≡ unmarked_disjunctions ds
   pub printed : are_printed (disjunctions_lines m ds) ≡ true
   pub firsts : AreFirst m (bs ++ more) later
@@ -259,7 +261,7 @@ pub record DisjunctionsGiven (m : ModelTree) (vs : List VarValue) (g : Option Go
 pub record DisjunctsGiven (m : ModelTree) (vs : List VarValue) (g : Option GoalValue) (bs : List BooleanValue) (o : OpenBlock) (d : OpenDisjunction) (os : List (OpenBlock × OpenDisjunction)) (line : ℕ) (js : Disjuncts) (later : List DisjunctHead) : Type 0 where
   pub more : List BooleanValue
   pub closed : List DisjunctTree
-  pub leads : Leads line (headed (in_disjunction vs g bs o d os)) (disjuncts_lines m js) (headed (in_disjunction vs g (bs ++ more) o (record d { closed = d.closed ++ closed }) os))
+  pub leads : LeadsBy model_grammar line (headed (in_disjunction vs g bs o d os)) (disjuncts_lines m js) (headed (in_disjunction vs g (bs ++ more) o (record d { closed = d.closed ++ closed }) os))
   pub same : unmarked_disjuncts (disjuncts closed) ≡ unmarked_disjuncts js
   pub printed : are_printed (disjuncts_lines m js) ≡ true
   pub firsts : AreFirst m (bs ++ more) later
@@ -269,7 +271,7 @@ pub record BlockGiven (m : ModelTree) (vs : List VarValue) (g : Option GoalValue
   pub rows : List (RowValue × ℕ)
   pub props : List (PropTree × ℕ)
   pub closed : List DisjunctionTree
-  pub leads : Leads line (headed (in_block vs g bs o os)) (block_lines m b) (headed (in_block vs g (bs ++ more) (record o { rows = o.rows ++ rows; props = o.props ++ props; closed = o.closed ++ closed }) os))
+  pub leads : LeadsBy model_grammar line (headed (in_block vs g bs o os)) (block_lines m b) (headed (in_block vs g (bs ++ more) (record o { rows = o.rows ++ rows; props = o.props ++ props; closed = o.closed ++ closed }) os))
   pub same : unmarked_block (block (record { rows = rows; props = props }) (disjunctions closed)) ≡ unmarked_block b
   pub printed : are_printed (block_lines m b) ≡ true
   pub firsts : AreFirst m (bs ++ more) later
@@ -369,10 +371,10 @@ disjunctions_step m vs g bs o os line after head js ds later at filled r t =
     let d : OpenDisjunction = record (opened_at line head) { closed = r.closed } in
     let o' : OpenBlock = with_closed o (opened_at line head) r.closed in
     let x : DisjunctionTree = closed_disjunction d in
-    let rest : Leads after (headed (in_disjunction vs g (bs ++ r.more) o d os)) (codes "end" ∷ disjunctions_lines m ds)
+    let rest : LeadsBy model_grammar after (headed (in_disjunction vs g (bs ++ r.more) o d os)) (codes "end" ∷ disjunctions_lines m ds)
     (headed (in_block vs g ((bs ++ r.more) ++ t.more) (record o' { closed = o'.closed ++ t.closed }) os)) =
     (headed (in_block vs g (bs ++ r.more) o' os), close_lead vs g (bs ++ r.more) o d os after (not_empty r.closed js r.same filled), t.leads) in
-    let whole : Leads line (headed (in_block vs g bs o os)) (disjunctions_lines m (disjunction head js ds)) (headed (in_block vs g ((bs ++ r.more) ++ t.more) (record o' { closed = o'.closed ++ t.closed }) os)) = (
+    let whole : LeadsBy model_grammar line (headed (in_block vs g bs o os)) (disjunctions_lines m (disjunction head js ds)) (headed (in_block vs g ((bs ++ r.more) ++ t.more) (record o' { closed = o'.closed ++ t.closed }) os)) = (
       headed (in_disjunction vs g bs o (opened_at line head) os),
       open_lead vs g bs o os line head,
       leads_then (line + 1) after (disjuncts_lines m js) (codes "end" ∷ disjunctions_lines m ds) _ _ _ at r.leads rest,
@@ -409,10 +411,10 @@ disjuncts_step m vs g bs o d os line after head b js later at next shallow is k 
     let bs1 : List BooleanValue = bs ++ x ∷ [] in
     let i : OpenBlock = inside_at line bs k.rows k.props k.closed in
     let d' : OpenDisjunction = with_disjunct_closed d i in
-    let rest : Leads after (headed (in_block vs g (bs1 ++ k.more) i ((o, d) ∷ os))) (codes "end" ∷ disjuncts_lines m js)
+    let rest : LeadsBy model_grammar after (headed (in_block vs g (bs1 ++ k.more) i ((o, d) ∷ os))) (codes "end" ∷ disjuncts_lines m js)
     (headed (in_disjunction vs g ((bs1 ++ k.more) ++ t.more) o (record d' { closed = d'.closed ++ t.closed }) os)) =
     (headed (in_disjunction vs g (bs1 ++ k.more) o d' os), leave_lead vs g (bs1 ++ k.more) i o d os after, t.leads) in
-    let whole : Leads line (headed (in_disjunction vs g bs o d os)) (disjuncts_lines m (disjunct head b js)) (headed (in_disjunction vs g ((bs1 ++ k.more) ++ t.more) o (record d' { closed = d'.closed ++ t.closed }) os)) = (
+    let whole : LeadsBy model_grammar line (headed (in_disjunction vs g bs o d os)) (disjuncts_lines m (disjunct head b js)) (headed (in_disjunction vs g ((bs1 ++ k.more) ++ t.more) o (record d' { closed = d'.closed ++ t.closed }) os)) = (
       headed (in_block vs g bs1 (empty_block (length bs) line) ((o, d) ∷ os)),
       enter_lead m vs g bs o d os line head.indicator next shallow,
       leads_then (line + 1) after (block_lines m b) (codes "end" ∷ disjuncts_lines m js) _ _ _ at k.leads rest,

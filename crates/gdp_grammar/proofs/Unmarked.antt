@@ -7,7 +7,8 @@ use Rattle.propositions.specs.Tree.{PropTree}
 use Rattle.model_tree.specs.Tree.{DisjunctHead, BlockTree, block, Disjunctions, no_disjunctions, disjunction, Disjuncts, no_disjuncts, disjunct, below, below_disjunctions, below_disjuncts}
 use Rattle.model_tree.specs.Values.{ModelTree}
 use Rattle.model_tree.specs.Variables.{VarValue, BooleanValue}
-use Rattle.gdp_grammar.specs.Canonical.{text_of, var_names, boolean_names, row_line, logic_line, var_line, boolean_line, goal_line, disjunction_line, disjunct_line, block_lines, disjunctions_lines, disjuncts_lines, numbers_of, indicators, free_from, free_booleans, canonical_lines, canonical_text}
+use Rattle.gdp_grammar.specs.Canonical.{var_names, boolean_names, row_line, logic_line, var_line, boolean_line, goal_line, disjunction_line, disjunct_line, block_lines, disjunctions_lines, disjuncts_lines, numbers_of, indicators, free_from, free_booleans, canonical_lines, canonical_text}
+use Rattle.text_grammar.specs.Printing.{text_of}
 use Rattle.gdp_grammar.specs.CanonicalLaws.{unmarked_rows, unmarked_props, unmarked_block, unmarked_disjunctions, unmarked_disjuncts, unmarked_vars, unmarked_booleans, unmarked, CanonicalIgnoresMarks}
 
 var_names_same : (vars : List VarValue) → map (λ (v : VarValue). v.0) (unmarked_vars vars) ≡ map (λ (v : VarValue). v.0) vars

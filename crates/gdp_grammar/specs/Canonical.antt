@@ -1,7 +1,8 @@
 -- The canonical text of a model. It depends on no mark, and two models that differ in more have two texts.
-use Rattle.std.specs.Prelude.{ℕ, ◌+◌, ℤ, pos, int_lt, ◌==◌, List, [], ◌∷◌, ◌++◌, map, Option, None, Some, codes, unsigned_abs, slice_index_or, if◌then◌else◌}
+use Rattle.std.specs.Prelude.{ℕ, ◌+◌, ℤ, pos, ◌==◌, List, [], ◌∷◌, ◌++◌, map, Option, None, Some, codes, unsigned_abs, slice_index_or, if◌then◌else◌}
 use Rattle.std.specs.Fmt.{decimal}
 use Rattle.std.specs.List.{list_any}
+use Rattle.text_grammar.specs.Printing.{line_of, text_of, minus_word, sign_word}
 use Rattle.fractions.specs.Fraction.{Fraction}
 use Rattle.lp_rows.specs.declared.kinds.Kind.{Kind}
 use Rattle.lp_rows.specs.declared.kinds.Kind.TheVariants.{Real, Int}
@@ -20,36 +21,14 @@ use Rattle.model_tree.specs.View.{DisjunctTree, DisjunctionTree}
 use Rattle.gdp_grammar.specs.Lowest.{over}
 use Rattle.gdp_grammar.specs.PropNames.{named_in, prop_text}
 
--- words with a blank before each
-abbrev pub spaced : List (List ℕ) → List ℕ
-spaced [] = []
-spaced (word ∷ words) = 32 ∷ word ++ spaced words
-
--- the line of a first word and further ones, with single blanks between them
-abbrev pub line_of : List ℕ → List (List ℕ) → List ℕ
-line_of first words = first ++ spaced words
-
--- the text of these lines: each ends with a newline
-abbrev pub text_of : List (List ℕ) → List ℕ
-text_of [] = []
-text_of (line ∷ lines) = line ++ 10 ∷ text_of lines
-
 -- the magnitude of a number: `p`, or `p/q`
 abbrev pub size_word : Fraction → List ℕ
 size_word f =
     if unsigned_abs f.den == 1 then decimal (unsigned_abs f.num) else decimal (unsigned_abs f.num) ++ 47 ∷ decimal (unsigned_abs f.den)
 
--- a `-` where the number is negative
-abbrev pub minus_word : ℤ → List ℕ
-minus_word number = if int_lt number (pos 0) then codes "-" else []
-
 -- a number: its magnitude, with a `-` directly before it where it is negative
 abbrev pub number_word : Fraction → List ℕ
 number_word f = minus_word f.num ++ size_word f
-
--- the sign before a further term
-abbrev pub sign_word : ℤ → List ℕ
-sign_word number = if int_lt number (pos 0) then codes "-" else codes "+"
 
 -- an end of a bound: a number, or this word where there is none
 abbrev pub end_word : List ℕ → Option Fraction → List ℕ

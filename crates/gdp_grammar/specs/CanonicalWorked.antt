@@ -10,7 +10,7 @@ use Rattle.propositions.specs.Tree.{implies, some_of, exactly, atom, paired, lis
 use Rattle.model_tree.specs.declared.tree.Mode.TheVariants.{Xor, Or}
 use Rattle.model_tree.specs.Tree.{BlockTree, block, no_disjunctions, disjunction, no_disjuncts, disjunct}
 use Rattle.model_tree.specs.Values.{ModelTree}
-use Rattle.gdp_grammar.specs.Canonical.{text_of}
+use Rattle.text_grammar.specs.Printing.{text_of}
 
 abbrev pub fraction : ℤ → ℤ → Option Fraction
 fraction num den = Some (record { num = num; den = den })

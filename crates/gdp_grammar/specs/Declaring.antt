@@ -8,7 +8,7 @@ use Rattle.gdp_grammar.specs.Forms.{Form, Var, Boolean, Goal, Disjunct, Signed, 
 use Rattle.gdp_grammar.specs.Lines.{without_comment}
 use Rattle.gdp_grammar.specs.Numerals.{value_of}
 use Rattle.gdp_grammar.specs.Tokens.{tokens_of}
-use Rattle.gdp_grammar.specs.Words.{words_of, is_some_word}
+use Rattle.text_grammar.specs.Words.{words_of, is_some_word}
 
 -- the line has no word before its comment
 abbrev pub is_blank : List ℕ → Bool

@@ -12,7 +12,7 @@ use Rattle.model_tree.specs.declared.tree.Mode.TheVariants as mode
 use Rattle.gdp_grammar.specs.declared.cause.ReadCause.{ReadCause}
 use Rattle.gdp_grammar.specs.declared.cause.ReadCause.TheVariants as cause
 use Rattle.gdp_grammar.specs.declared.symbol.Symbol.TheVariants.{Plus, Minus, AtMost, AtLeast, Equal}
-use Rattle.gdp_grammar.specs.Causes.{◌>>=◌}
+use Rattle.text_grammar.specs.Outcomes.{◌>>=◌}
 use Rattle.gdp_grammar.specs.Keywords.{is_reserved}
 use Rattle.gdp_grammar.specs.Numerals.{Numeral, Whole}
 use Rattle.gdp_grammar.specs.Tokens.{Piece, Word, Number, Mark}

@@ -5,10 +5,11 @@ use Rattle.model_tree.specs.Values.{ModelTree}
 use Rattle.gdp_grammar.specs.declared.cause.ReadCause.{ReadCause}
 use Rattle.gdp_grammar.specs.declared.cause.ReadCause.TheVariants as cause
 use Rattle.gdp_grammar.specs.Declaring.{is_blank, vars_from, booleans_from, goals_from, IsGoalOf}
-use Rattle.gdp_grammar.specs.Lines.{lines_of, without_comment}
+use Rattle.gdp_grammar.specs.Lines.{without_comment}
+use Rattle.text_grammar.specs.Lines.{lines_of}
 use Rattle.gdp_grammar.specs.Reading.{is_header}
 use Rattle.gdp_grammar.specs.Spelling.{Spells, IsFirstBad}
-use Rattle.gdp_grammar.specs.Words.{words_of}
+use Rattle.text_grammar.specs.Words.{words_of}
 use Rattle.gdp_grammar.specs.Worked as worked
 
 -- a text spells at most one model

@@ -1,15 +1,11 @@
 pub mod Canonical
 pub mod CanonicalLaws
 pub mod CanonicalWorked
-pub mod Causes
 pub mod Classes
 pub mod Declaring
-pub mod Feeding
-pub mod Following
 pub mod Forms
 pub mod Keywords
 pub mod Laws
-pub mod LineGrammars
 pub mod Lines
 pub mod Lowest
 pub mod Nested
@@ -28,6 +24,5 @@ pub mod Reading
 pub mod Spelling
 pub mod Stacks
 pub mod Tokens
-pub mod Words
 pub mod Worked
 pub mod WorkedPoints

@@ -4,7 +4,7 @@ use Rattle.lp_rows.specs.Rows.{RowValue}
 use Rattle.propositions.specs.Tree.{PropTree}
 use Rattle.model_tree.specs.Tree.{BlockTree, block, Disjunctions, no_disjunctions, disjunction, Disjuncts, no_disjuncts, disjunct}
 use Rattle.model_tree.specs.Values.{ModelTree}
-use Rattle.gdp_grammar.specs.Lines.{lines_of}
+use Rattle.text_grammar.specs.Lines.{lines_of}
 use Rattle.gdp_grammar.specs.Owners.{LineKind, Kinds, kinds_of, is_row, is_logic, is_disjunction, is_disjunct, IsOwner, IsNested}
 use Rattle.gdp_grammar.specs.Spelling.{Spells}
 

@@ -1,5 +1,6 @@
 -- Numbers as they are spelled, and their values.
-use Rattle.std.specs.Prelude.{ℕ, zero, suc, ◌+◌, ◌-◌, ◌*◌, ◌/◌, ◌%◌, ◌^◌, ℤ, pos, neg_ℤ, Bool, ◌&&◌, nat_le, List, [], ◌∷◌, length, Option, None, Some, if◌then◌else◌}
+use Rattle.std.specs.Prelude.{ℕ, zero, suc, ◌/◌, ◌%◌, ◌^◌, ℤ, pos, neg_ℤ, Bool, ◌&&◌, nat_le, List, length, Option, None, Some, if◌then◌else◌}
+use Rattle.text_grammar.specs.Digits.{value_after}
 use Rattle.fractions.specs.Fraction as fraction
 
 -- a whole number, a fraction or a decimal, by its digits
@@ -8,21 +9,16 @@ pub data Numeral : Type 0 where
   Fraction : (over under : List ℕ) → Numeral
   Decimal : (digits places : List ℕ) → Numeral
 
--- the value of digits that follow a number
-abbrev pub decimal : ℕ → List ℕ → ℕ
-decimal value [] = value
-decimal value (d ∷ ds) = decimal (value * 10 + (d - 48)) ds
-
 -- p of a number's value p / q, before it is reduced
 abbrev pub over_part : Numeral → ℕ
-over_part (Whole digits) = decimal 0 digits
-over_part (Fraction over under) = decimal 0 over
-over_part (Decimal digits places) = decimal (decimal 0 digits) places
+over_part (Whole digits) = value_after 0 digits
+over_part (Fraction over under) = value_after 0 over
+over_part (Decimal digits places) = value_after (value_after 0 digits) places
 
 -- q of a number's value p / q: a decimal of k places is over 10 ^ k
 abbrev pub under_part : Numeral → ℕ
 under_part (Whole digits) = 1
-under_part (Fraction over under) = decimal 0 under
+under_part (Fraction over under) = value_after 0 under
 under_part (Decimal digits places) = 10 ^ length places
 
 -- p is at most 10 ^ 15, and q from 1 to 10 ^ 15

@@ -3,7 +3,7 @@ use Rattle.std.specs.Prelude.{◌≡◌, ℕ, zero, suc, ◌-◌, ◌<◌, Bool,
 use Rattle.gdp_grammar.specs.declared.cause.ReadCause.{ReadCause}
 use Rattle.gdp_grammar.specs.Declaring.{form_on}
 use Rattle.gdp_grammar.specs.Forms as form
-use Rattle.gdp_grammar.specs.Lines.{lines_of}
+use Rattle.text_grammar.specs.Lines.{lines_of}
 
 -- a line, by what it means for nesting
 pub data LineKind : Type 0 where

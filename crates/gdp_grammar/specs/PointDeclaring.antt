@@ -3,11 +3,12 @@ use Rattle.std.specs.Prelude.{◌≡◌, ◌<◌, ◌⊎◌, ℕ, pos, Bool, tru
 use Rattle.lp_rows.specs.Points.{PointValue}
 use Rattle.model_tree.specs.Values.{ModelTree}
 use Rattle.gdp_grammar.specs.declared.cause.ReadCause.{ReadCause}
-use Rattle.gdp_grammar.specs.Lines.{lines_of, without_comment}
+use Rattle.gdp_grammar.specs.Lines.{without_comment}
+use Rattle.text_grammar.specs.Lines.{lines_of}
 use Rattle.gdp_grammar.specs.PointForms.{Integer, PointForm, Over, Val, On, point_form_of}
 use Rattle.gdp_grammar.specs.PointReading.{variable_at, boolean_at, integer_value, over_value}
 use Rattle.gdp_grammar.specs.Points.{SpellsPoint}
-use Rattle.gdp_grammar.specs.Words.{words_of}
+use Rattle.text_grammar.specs.Words.{words_of}
 
 -- the form of a line
 abbrev pub point_form_on : List ℕ → Result PointForm ReadCause

@@ -5,7 +5,7 @@ use Rattle.model_tree.specs.Names.{has_name_shape}
 use Rattle.gdp_grammar.specs.declared.cause.ReadCause.{ReadCause}
 use Rattle.gdp_grammar.specs.declared.cause.ReadCause.TheVariants as cause
 use Rattle.gdp_grammar.specs.declared.class.Class.TheVariants as class
-use Rattle.gdp_grammar.specs.Causes.{◌>>=◌}
+use Rattle.text_grammar.specs.Outcomes.{◌>>=◌}
 use Rattle.gdp_grammar.specs.Classes.{belongs}
 use Rattle.gdp_grammar.specs.Keywords.{is_reserved}
 

@@ -6,12 +6,12 @@ use Rattle.lp_rows.specs.Points.{PointValue}
 use Rattle.model_tree.specs.Values.{ModelTree}
 use Rattle.gdp_grammar.specs.declared.cause.ReadCause.{ReadCause}
 use Rattle.gdp_grammar.specs.declared.cause.ReadCause.TheVariants as cause
-use Rattle.gdp_grammar.specs.Causes.{◌>>=◌, refuse_if}
+use Rattle.text_grammar.specs.Outcomes.{◌>>=◌, refused_where}
 use Rattle.gdp_grammar.specs.Lines.{without_comment}
-use Rattle.gdp_grammar.specs.Numerals.{decimal}
+use Rattle.text_grammar.specs.Digits.{value_after}
 use Rattle.gdp_grammar.specs.PointForms.{Integer, PointForm, Over, Val, On, End, point_form_of}
-use Rattle.gdp_grammar.specs.Reading.{or_cause}
-use Rattle.gdp_grammar.specs.Words.{words_of, are_words}
+use Rattle.text_grammar.specs.Outcomes.{or_cause}
+use Rattle.text_grammar.specs.Words.{words_of, are_words}
 
 -- What the lines so far gave: whether the header was among them, the denominator, the number of each variable that has
 -- its line, which Booleans are true, and whether the line `end` was among them.
@@ -54,11 +54,11 @@ if_fits number = if fits number then Some number else None
 
 -- the value of a whole number, if it is in the range of i128
 abbrev pub integer_value : Integer → Option ℤ
-integer_value n = if_fits (if n.is_negative then neg_ℤ (pos (decimal 0 n.digits)) else pos (decimal 0 n.digits))
+integer_value n = if_fits (if n.is_negative then neg_ℤ (pos (value_after 0 n.digits)) else pos (value_after 0 n.digits))
 
 -- the denominator: at least 1 and in the range of i128
 abbrev pub over_value : List ℕ → Option ℤ
-over_value digits = if int_lt (pos 0) (pos (decimal 0 digits)) then if_fits (pos (decimal 0 digits)) else None
+over_value digits = if int_lt (pos 0) (pos (value_after 0 digits)) then if_fits (pos (value_after 0 digits)) else None
 
 -- lines on names stand after the line `over` and before the line `end`
 abbrev pub takes_names : PointTaken → Bool
@@ -67,15 +67,15 @@ takes_names t = is_some t.over && not t.ended
 -- the second line gives the denominator
 unfoldable pub with_over : PointTaken → List ℕ → Result PointTaken ReadCause
 with_over t digits = do
-  place ← refuse_if (is_some t.over) cause.Form
+  place ← refused_where (is_some t.over) cause.Form
   over ← or_cause cause.Number (over_value digits)
   Ok (record t { over = Some over })
 
 -- a variable is given its number
 unfoldable pub with_val : ModelTree → PointTaken → List ℕ → Integer → Result PointTaken ReadCause
 with_val m t name number = do
-  place ← refuse_if (not (takes_names t)) cause.Form
-  twice ← refuse_if (has_line m t name) cause.NameTwice
+  place ← refused_where (not (takes_names t)) cause.Form
+  twice ← refused_where (has_line m t name) cause.NameTwice
   id ← or_cause cause.NameUnknown (variable_at m name)
   value ← or_cause cause.Number (integer_value number)
   Ok (record t { numbers = set t.numbers id (Some value) })
@@ -83,16 +83,16 @@ with_val m t name number = do
 -- a Boolean is made true
 unfoldable pub with_on : ModelTree → PointTaken → List ℕ → Result PointTaken ReadCause
 with_on m t name = do
-  place ← refuse_if (not (takes_names t)) cause.Form
-  twice ← refuse_if (has_line m t name) cause.NameTwice
+  place ← refused_where (not (takes_names t)) cause.Form
+  twice ← refused_where (has_line m t name) cause.NameTwice
   id ← or_cause cause.NameUnknown (boolean_at m name)
   Ok (record t { truths = set t.truths id true })
 
 -- the line `end` comes where each variable has its number
 unfoldable pub with_end : PointTaken → Result PointTaken ReadCause
 with_end t = do
-  place ← refuse_if (not (takes_names t)) cause.Form
-  missing ← refuse_if (not (list_all is_some t.numbers)) cause.Missing
+  place ← refused_where (not (takes_names t)) cause.Form
+  missing ← refused_where (not (list_all is_some t.numbers)) cause.Missing
   Ok (record t { ended = true })
 
 -- what a line of this form adds
@@ -106,7 +106,7 @@ with_point_form m t End = with_end t
 abbrev pub with_point_header : PointTaken → List (List ℕ) → Result PointTaken ReadCause
 with_point_header t [] = Ok t
 with_point_header t (word ∷ words) = do
-  header ← refuse_if (not (are_words (word ∷ words) (codes "gdp-point") (codes "1"))) cause.Header
+  header ← refused_where (not (are_words (word ∷ words) (codes "gdp-point") (codes "1"))) cause.Header
   Ok (record t { headed = true })
 
 -- a line after the header adds what its form says, and a blank one nothing
@@ -136,8 +136,8 @@ all_numbers (Some n ∷ numbers) = with_first n (all_numbers numbers)
 -- the point that the lines gave, or what is missing at the end
 unfoldable pub point_after : PointTaken → Result (PointValue × List Bool) ReadCause
 point_after t = do
-  header ← refuse_if (not t.headed) cause.Header
-  end ← refuse_if (not t.ended) cause.Missing
+  header ← refused_where (not t.headed) cause.Header
+  end ← refused_where (not t.ended) cause.Missing
   over ← or_cause cause.Missing t.over
   nums ← or_cause cause.Missing (all_numbers t.numbers)
   Ok (record { over = over; nums = nums }, t.truths)

@@ -4,7 +4,7 @@ use Rattle.std.specs.Fmt.{decimal}
 use Rattle.propositions.specs.Tree.{ListConnective, all_of, some_of, PropTree, atom, negated, paired, listed, PropTrees, no_props, prop}
 use Rattle.propositions.specs.Tree as tree
 use Rattle.model_tree.specs.Variables.{BooleanValue}
-use Rattle.gdp_grammar.specs.Numerals as numeral
+use Rattle.text_grammar.specs.Digits.{value_after}
 use Rattle.gdp_grammar.specs.PropTexts.{Counting, exactly, at_least, at_most, Operator, negation, pair, all, some, counted, NamedProp, named, applied, NamedProps, no_arguments, argument, pair_word, counting_word}
 
 -- the number of the Boolean with this name, if there is one
@@ -33,7 +33,7 @@ abbrev pub combined : Operator → PropTrees → PropTree
 combined negation (prop p no_props) = negated p
 combined (pair c) (prop p (prop q no_props)) = paired c p q
 combined some ps = listed some_of ps
-combined (counted c digits) ps = listed (counting_connective c (numeral.decimal 0 digits)) ps
+combined (counted c digits) ps = listed (counting_connective c (value_after 0 digits)) ps
 combined o ps = listed all_of ps
 
 -- the tree of a proposition, by the numbers of the Booleans that it names

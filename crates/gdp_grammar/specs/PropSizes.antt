@@ -1,6 +1,6 @@
 -- How large a proposition of a text is.
 use Rattle.std.specs.Prelude.{ℕ, ◌+◌, max}
-use Rattle.gdp_grammar.specs.Numerals.{decimal}
+use Rattle.text_grammar.specs.Digits.{value_after}
 use Rattle.gdp_grammar.specs.PropTexts.{Operator, counted, NamedProp, named, applied, NamedProps, no_arguments, argument, argument_count}
 
 -- the depth: 1 of a name, and else one more than that of the deepest argument
@@ -35,7 +35,7 @@ abbrev mutual
 
 -- the number of a counting operator, 0 of another
 abbrev pub number_in : Operator → ℕ
-number_in (counted c digits) = decimal 0 digits
+number_in (counted c digits) = value_after 0 digits
 number_in o = 0
 
 -- the greatest number of a counting operator, 0 where there is none

@@ -13,19 +13,14 @@ use Rattle.model_tree.specs.Values.{ModelTree}
 use Rattle.model_tree.specs.Variables.{VarValue}
 use Rattle.gdp_grammar.specs.declared.cause.ReadCause.{ReadCause}
 use Rattle.gdp_grammar.specs.declared.cause.ReadCause.TheVariants as cause
-use Rattle.gdp_grammar.specs.Causes.{◌>>=◌, refuse_if}
+use Rattle.text_grammar.specs.Outcomes.{◌>>=◌, refused_where, or_cause}
 use Rattle.gdp_grammar.specs.Forms.{Form, Var, Boolean, Goal, Row, Logic, Disjunction, Disjunct, End, Signed, Summand, form_of}
 use Rattle.gdp_grammar.specs.Lines.{without_comment}
 use Rattle.gdp_grammar.specs.Numerals.{Numeral, signed, value_of}
 use Rattle.gdp_grammar.specs.PropNames.{are_known, tree_in}
 use Rattle.gdp_grammar.specs.PropReading.{prop_of}
 use Rattle.gdp_grammar.specs.Tokens.{Piece, tokens_of}
-use Rattle.gdp_grammar.specs.Words.{words_of, are_words}
-
--- the value, or the cause that there is none
-abbrev pub or_cause : {A : Type 0} → ReadCause → Option A → Result A ReadCause
-or_cause cause None = Err cause
-or_cause cause (Some x) = Ok x
+use Rattle.text_grammar.specs.Words.{words_of, are_words}
 
 -- a whole number with its sign
 abbrev pub signed_whole : Bool → ℕ → Fraction
@@ -58,8 +53,8 @@ after_call (Err refusal, old) = Err (cause_of refusal)
 -- a variable is declared
 unfoldable pub with_var : BuildingValue → ℕ → List ℕ → Kind → Option Signed → Option Signed → Result BuildingValue ReadCause
 with_var b line name kind low high = do
-  place ← refuse_if (not (is_at_root b)) cause.Form
-  new ← refuse_if (is_taken name b) cause.NameTwice
+  place ← refused_where (not (is_at_root b)) cause.Form
+  new ← refused_where (is_taken name b) cause.NameTwice
   low ← end_of low
   high ← end_of high
   after_call (var_outcome name kind (record { low = low; high = high }) line b)
@@ -112,7 +107,7 @@ valued_terms (t ∷ ts) = do
 -- the terms of a sum: no variable stands twice in it, each name is known, and each number is in range
 unfoldable pub terms_of : List VarValue → List Summand → Result (List (ℕ × Fraction)) ReadCause
 terms_of vars sum = do
-  twice ← refuse_if (has_twice (named vars sum)) cause.NameTwice
+  twice ← refused_where (has_twice (named vars sum)) cause.NameTwice
   known ← known_terms vars sum
   valued_terms known
 
@@ -124,7 +119,7 @@ constant_value (Some s) = value_of s.is_negative s.size
 -- the goal is set
 unfoldable pub with_goal : BuildingValue → ℕ → Sense → List Summand → Option Signed → Result BuildingValue ReadCause
 with_goal b line sense sum constant = do
-  place ← refuse_if (not (is_at_root b) || is_some b.goal) cause.Form
+  place ← refused_where (not (is_at_root b) || is_some b.goal) cause.Form
   terms ← terms_of b.vars sum
   constant ← or_cause cause.Number (constant_value constant)
   after_call (goal_outcome sense terms constant line b)
@@ -132,7 +127,7 @@ with_goal b line sense sum constant = do
 -- a row is appended
 unfoldable pub with_row : BuildingValue → ℕ → List Summand → Rel → Signed → Result BuildingValue ReadCause
 with_row b line sum rel right = do
-  place ← refuse_if (is_some b.opened) cause.Form
+  place ← refused_where (is_some b.opened) cause.Form
   terms ← terms_of b.vars sum
   right ← or_cause cause.Number (value_of right.is_negative right.size)
   after_call (row_outcome terms rel right line b)
@@ -140,9 +135,9 @@ with_row b line sum rel right = do
 -- a proposition is appended: it stands in a block, its tokens spell it, and its names are known
 unfoldable pub with_logic : BuildingValue → ℕ → List Piece → Result BuildingValue ReadCause
 with_logic b line tokens = do
-  place ← refuse_if (is_some b.opened) cause.Form
+  place ← refused_where (is_some b.opened) cause.Form
   p ← prop_of tokens
-  known ← refuse_if (not (are_known b.booleans p)) cause.NameUnknown
+  known ← refused_where (not (are_known b.booleans p)) cause.NameUnknown
   after_call (prop_outcome (tree_in b.booleans p) line b)
 
 -- what a line of this form adds; the line `end` closes the innermost that is open
@@ -173,7 +168,7 @@ is_header words = are_words words (codes "gdp") (codes "1")
 abbrev pub with_header : Taken → List (List ℕ) → Result Taken ReadCause
 with_header t [] = Ok t
 with_header t (word ∷ words) = do
-  header ← refuse_if (not (is_header (word ∷ words))) cause.Header
+  header ← refused_where (not (is_header (word ∷ words))) cause.Header
   Ok (record t { headed = true })
 
 -- a line after the header adds what its form says, and a blank one nothing
@@ -200,5 +195,5 @@ finished (Err refusal) = Err (cause_of refusal)
 -- the model that the lines gave, or what is missing at the end
 unfoldable pub model_after : Taken → Result ModelTree ReadCause
 model_after t = do
-  header ← refuse_if (not t.headed) cause.Header
+  header ← refused_where (not t.headed) cause.Header
   finished (finish_outcome t.building)

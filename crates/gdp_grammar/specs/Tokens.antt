@@ -1,5 +1,6 @@
 -- The tokens of a line.
-use Rattle.std.specs.Prelude.{ℕ, zero, suc, ◌&&◌, ◌==◌, List, [], ◌∷◌, length, if◌then◌else◌}
+use Rattle.std.specs.Prelude.{ℕ, ◌&&◌, ◌==◌, List, [], ◌∷◌, if◌then◌else◌}
+use Rattle.text_grammar.specs.Lexers.{tokens_by}
 use Rattle.gdp_grammar.specs.declared.class.Class.TheVariants as class
 use Rattle.gdp_grammar.specs.declared.symbol.Symbol.{Symbol}
 use Rattle.gdp_grammar.specs.declared.symbol.Symbol.TheVariants.{Plus, Minus, Open, Close, Comma, AtMost, AtLeast, Equal}
@@ -46,14 +47,6 @@ token_of b bs =
     else (if b == 62 then double_of AtLeast bs
     else (Stray, bs))))))))))
 
--- the tokens of at most n bytes
-abbrev pub tokens_within : ℕ → List ℕ → List Piece
-tokens_within zero bytes = []
-tokens_within (suc n) [] = []
-tokens_within (suc n) (b ∷ bs) =
-    if belongs class.Blank b then tokens_within n bs
-    else (token_of b bs).0 ∷ tokens_within n (token_of b bs).1
-
 -- the tokens of a line; blanks between them are free
 unfoldable pub tokens_of : List ℕ → List Piece
-tokens_of line = tokens_within (length line) line
+tokens_of line = tokens_by token_of line

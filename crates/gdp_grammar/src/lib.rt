@@ -12,7 +12,6 @@
 pub mod canonical_laws;
 pub mod cause;
 pub mod class;
-pub mod feeding;
 pub mod laws;
 pub mod nesting_laws;
 pub mod point_laws;
@@ -22,3 +21,4 @@ pub mod symbol;
 pub use cause::ReadCause;
 pub use class::Class;
 pub use symbol::Symbol;
+pub use text_grammar::feeding;

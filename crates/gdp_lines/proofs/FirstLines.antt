@@ -3,8 +3,8 @@ use Rattle.std.proofs.Common.{◌≡◌, ℕ, ◌-◌, ◌<◌, List, [], ◌∷
 use Rattle.std.proofs.lemmas.List.{take_rest, nil_from_length}
 use Rattle.gdp_grammar.specs.declared.class.Class.TheVariants as class
 use Rattle.gdp_grammar.specs.Classes.{front, rest}
-use Rattle.gdp_grammar.specs.Lines.{lines_of, without_return}
-use Rattle.gdp_grammar.proofs.Cutting.{first_line, last_line}
+use Rattle.text_grammar.specs.Lines.{lines_of, without_return}
+use Rattle.text_grammar.proofs.LinesLemmas.{first_line, last_line}
 
 pub whole_line : (text line after : List ℕ) → 0 < length text → line ≡ front class.Line text → after ≡ rest class.Line text → length after ≡ 0 → lines_of text ≡ line ∷ lines_of after
 whole_line [] line after some f r none = absurd (omega (arith, some))

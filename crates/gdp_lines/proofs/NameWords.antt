@@ -10,7 +10,7 @@ use Rattle.model_tree.specs.Names.{has_name_shape, begins_name, continues_name}
 use Rattle.gdp_grammar.specs.declared.cause.ReadCause.TheVariants as cause
 use Rattle.gdp_grammar.specs.Keywords.{is_reserved}
 use Rattle.gdp_grammar.specs.PointForms.{is_name_word, name_in}
-use Rattle.gdp_grammar.proofs.Cutting.{told}
+use Rattle.text_grammar.proofs.Bools.{told}
 
 both : (a b : Bool) → (a && b) ≡ true → (a ≡ true) × (b ≡ true)
 both true b e = (refl, e)

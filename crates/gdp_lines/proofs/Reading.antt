@@ -3,7 +3,7 @@ use Rattle.std.proofs.Common.{◌≡◌, ℕ, ◌-◌, ◌<◌, ◌≤◌, List,
 use Rattle.std.proofs.lemmas.List.{take_rest, nil_from_length}
 use Rattle.gdp_grammar.specs.declared.class.Class.TheVariants as class
 use Rattle.gdp_grammar.specs.Classes.{front, rest}
-use Rattle.gdp_grammar.specs.Words.{words_of}
+use Rattle.text_grammar.specs.Words.{words_of}
 use Rattle.gdp_grammar.specs.Tokens.{Piece, token_of, tokens_of}
 use Rattle.gdp_grammar.proofs.Pieces.{no_tokens, first_token, no_words, first_word}
 

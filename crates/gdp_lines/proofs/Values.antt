@@ -8,21 +8,21 @@ use Rattle.std.specs.Int.{IsGcd, w128}
 use Rattle.std.proofs.lemmas.Int.{ints}
 use Rattle.std.proofs.lemmas.Bool.{false≢true}
 use Rattle.std.proofs.Math.Nat.{one-dvd, pow-le-pow_right}
-use Rattle.gdp_grammar.proofs.Cutting.{told}
+use Rattle.text_grammar.proofs.Bools.{told}
 use Rattle.fractions.specs.Fraction.{Fraction, IsReduced, fraction_fits}
 use Rattle.fractions.specs.Width.{fits}
 use Rattle.fractions.proofs.Reduction.{reduced_same}
 use Rattle.fractions.proofs.Widths.{fits_from_range}
-use Rattle.gdp_grammar.specs.Numerals.{decimal}
+use Rattle.text_grammar.specs.Digits.{value_after}
 use Rattle.gdp_lines.specs.Ranges.{in_range}
 
 -- digits make a number no less
-pub decimal_grows : (n : ℕ) (ds : List ℕ) → n ≤ decimal n ds
+pub decimal_grows : (n : ℕ) (ds : List ℕ) → n ≤ value_after n ds
 decimal_grows n [] = omega arith
 decimal_grows n (d ∷ ds) = omega (arith, decimal_grows (n * 10 + (d - 48)) ds)
 
-pub decimal_more : (digits : List ℕ) (i n : ℕ) → i < length digits → decimal n (drop i digits) ≡ decimal (n * 10 + (get_or digits i 0 - 48)) (drop (i + 1) digits)
-decimal_more digits i n within = ap (decimal n) (drop_more digits i 0 within)
+pub decimal_more : (digits : List ℕ) (i n : ℕ) → i < length digits → value_after n (drop i digits) ≡ value_after (n * 10 + (get_or digits i 0 - 48)) (drop (i + 1) digits)
+decimal_more digits i n within = ap (value_after n) (drop_more digits i 0 within)
 
 pub past_range : (size : ℕ) → 10 ^ 15 < size → in_range size ≡ None
 past_range size past = cond-false (nat_le size (10 ^ 15)) (Some size) None (grind (arith, nat_tests))
@@ -31,7 +31,7 @@ pub within_range : (size : ℕ) → size ≤ 10 ^ 15 → in_range size ≡ Some 
 within_range size within = cond-true (nat_le size (10 ^ 15)) (Some size) None (grind (arith, nat_tests))
 
 -- Past the range it stays, whatever digits follow.
-pub stays_past : (size whole : ℕ) (rest : List ℕ) → decimal size rest ≡ whole → 10 ^ 15 < size → in_range whole ≡ None
+pub stays_past : (size whole : ℕ) (rest : List ℕ) → value_after size rest ≡ whole → 10 ^ 15 < size → in_range whole ≡ None
 stays_past size whole rest same past = past_range whole (omega (arith, same, past, decimal_grows size rest))
 
 -- a whole number over 1 is in lowest terms, and is the only one that is equal to it
@@ -73,8 +73,8 @@ some_within size part some = elim (told (nat_le size (10 ^ 15))) [
 ]
 
 -- a number past the range stays past it with places behind it
-pub past_with : (size : ℕ) (places : List ℕ) → None ≡ in_range size → None ≡ in_range (decimal size places)
-past_with size places none = sym (stays_past size (decimal size places) places refl (none_past size none))
+pub past_with : (size : ℕ) (places : List ℕ) → None ≡ in_range size → None ≡ in_range (value_after size places)
+past_with size places none = sym (stays_past size (value_after size places) places refl (none_past size none))
 
 -- powers of ten
 pub power_past : (k : ℕ) → 15 < k → None ≡ in_range (10 ^ k)

@@ -1,7 +1,7 @@
 //! Whole numbers of a point text.
 
 ghost use Rattle.std.specs.Prelude.{◌≡◌, ◌+◌, ◌-◌, ◌*◌, ◌^◌, ◌≤◌, IfSome, IfNone};
-ghost use Rattle.gdp_grammar.specs.Numerals.{decimal};
+ghost use Rattle.text_grammar.specs.Digits.{value_after};
 ghost use Rattle.gdp_grammar.specs.PointReading.{integer_value as integer_value_of, over_value as over_value_of};
 ghost use Rattle.gdp_lines.specs.PointLines.{integer};
 
@@ -18,8 +18,8 @@ fn push_digit(size: u128, digit: u8) -> Option<u128>
 
 /// The number that digits spell, below 2^128.
 fn size_of(digits: &[u8]) -> Option<u128>
-    ensures some { IfSome result (λ n. n ≡ decimal 0 digits.now) }
-    ensures none { IfNone result (2 ^ 128 ≤ decimal 0 digits.now) }
+    ensures some { IfSome result (λ n. n ≡ value_after 0 digits.now) }
+    ensures none { IfNone result (2 ^ 128 ≤ value_after 0 digits.now) }
 {
     let mut size = 0;
     'digits: for digit in digits {

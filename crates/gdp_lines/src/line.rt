@@ -1,8 +1,9 @@
 //! Takes a text apart into its lines.
 
 ghost use Rattle.std.specs.Prelude.{◌≡◌, ℕ, ◌<◌, ◌∷◌, length};
-ghost use Rattle.gdp_grammar.specs.Lines.{lines_of};
-ghost use Rattle.gdp_grammar.specs.Lines.{without_comment as before_comment, without_return as before_return};
+ghost use Rattle.text_grammar.specs.Lines.{lines_of};
+ghost use Rattle.gdp_grammar.specs.Lines.{without_comment as before_comment};
+ghost use Rattle.text_grammar.specs.Lines.{without_return as before_return};
 
 use crate::class::split_front;
 use gdp_grammar::Class;

@@ -5,7 +5,7 @@ ghost use Rattle.std.specs.List.{list_all};
 ghost use Rattle.model_tree.specs.Names.{has_name_shape as shaped};
 ghost use Rattle.gdp_grammar.specs.Classes.{belongs as belongs_of};
 ghost use Rattle.gdp_grammar.specs.PointForms.{is_digits as is_digits_of, is_name_word as is_name_word_of, digits_of, signed_digits as signed_digits_of, integer_of, name_in, over_of, val_of, on_of, form_of_two, point_form_of};
-ghost use Rattle.gdp_grammar.specs.Words.{words_of};
+ghost use Rattle.text_grammar.specs.Words.{words_of};
 ghost use Rattle.gdp_lines.specs.Gives.{Gives};
 ghost use Rattle.gdp_lines.specs.PointLines.{integer, point_form};
 

@@ -2,14 +2,8 @@
 
 ghost use Rattle.std.specs.Prelude.{◌≡◌, ◌^◌, ◌≤◌, ◌+◌, ◌-◌, ◌*◌, pos};
 ghost use Rattle.std.specs.Option.{option_map};
-ghost use Rattle.gdp_grammar.specs.Numerals.{
-  decimal,
-  over_part as over_part_of,
-  under_part as under_part_of,
-  signed as signed_by,
-  ratio as ratio_of,
-  value_of,
-};
+ghost use Rattle.gdp_grammar.specs.Numerals.{over_part as over_part_of, under_part as under_part_of, signed as signed_by, ratio as ratio_of, value_of};
+ghost use Rattle.text_grammar.specs.Digits.{value_after};
 ghost use Rattle.gdp_grammar.specs.Reading.{signed_whole as whole_of, constant_value as constant_value_of, end_of};
 ghost use Rattle.gdp_lines.specs.Gives.{Gives};
 ghost use Rattle.gdp_lines.specs.Lines.{signed};
@@ -39,7 +33,7 @@ fn push_digit(size: u64, digit: u8) -> u64
 /// The number that digits spell behind a number, if it is in range.
 fn size_after(before: u64, digits: &[u8]) -> Option<u64>
     requires { before ≤ 10 ^ 15 }
-    ensures { result ≡ in_range (decimal before digits.now) }
+    ensures { result ≡ in_range (value_after before digits.now) }
 {
     let mut size = before;
     'digits: for digit in digits {
@@ -53,14 +47,14 @@ fn size_after(before: u64, digits: &[u8]) -> Option<u64>
 
 /// The number that digits spell, if it is in range.
 fn size_of(digits: &[u8]) -> Option<u64>
-    ensures { result ≡ in_range (decimal 0 digits.now) }
+    ensures { result ≡ in_range (value_after 0 digits.now) }
 {
     size_after(0, digits)
 }
 
 /// The number that digits spell with places behind them, if it is in range.
 fn size_with(digits: &[u8], places: &[u8]) -> Option<u64>
-    ensures { result ≡ in_range (decimal (decimal 0 digits.now) places.now) }
+    ensures { result ≡ in_range (value_after (value_after 0 digits.now) places.now) }
 {
     match size_of(digits) {
         Some(size) => size_after(size, places),

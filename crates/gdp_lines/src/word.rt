@@ -2,7 +2,7 @@
 
 ghost use Rattle.std.specs.Prelude.{◌≡◌, ◌↔◌, [], ◌∷◌, IsTrue};
 ghost use Rattle.std.specs.Option.{MatchOption};
-ghost use Rattle.gdp_grammar.specs.Words.{words_of, are_words as are_words_of};
+ghost use Rattle.text_grammar.specs.Words.{words_of, are_words as are_words_of};
 
 use crate::class::split_front;
 use gdp_grammar::Class;

@@ -7,9 +7,11 @@ use Rattle.model_tree.specs.declared.tree.Mode.{Mode}
 use Rattle.model_tree.specs.Tree.{BlockTree, Disjunctions, Disjuncts}
 use Rattle.model_tree.specs.Values.{ModelTree}
 use Rattle.model_tree.specs.View.{DisjunctTree, DisjunctionTree, rows_in, props_in, disjunctions_in}
-use Rattle.gdp_grammar.specs.Canonical.{text_of, row_line, logic_line, block_lines, disjunctions_lines, disjuncts_lines, disjunction_line, disjunct_line, lines_of_disjunction, lines_of_disjunct, spaced, line_of, number_word, sign_word, size_word, name_in, sum_words, terms_over, goal_words, constant_words, var_line, boolean_line, goal_line, free_booleans, canonical_lines}
+use Rattle.gdp_grammar.specs.Canonical.{row_line, logic_line, block_lines, disjunctions_lines, disjuncts_lines, disjunction_line, disjunct_line, lines_of_disjunction, lines_of_disjunct, number_word, size_word, name_in, sum_words, terms_over, goal_words, constant_words, var_line, boolean_line, goal_line, free_booleans, canonical_lines}
+use Rattle.text_grammar.specs.Printing.{text_of, spaced, line_of, sign_word}
 use Rattle.gdp_grammar.specs.Lowest.{over}
-use Rattle.gdp_grammar.proofs.Printed.{block_text, framed_text, spaced_appended, model_text}
+use Rattle.gdp_grammar.proofs.Printed.{block_text, framed_text, model_text}
+use Rattle.text_grammar.proofs.PrintingLemmas.{spaced_appended}
 use Rattle.std.specs.Prelude.{unsigned_abs}
 use Rattle.std.proofs.lemmas.Bool.{cond-false}
 use Rattle.fractions.specs.Fraction.{Fraction}

@@ -16,16 +16,8 @@ ghost use Rattle.model_tree.specs.Sound.{
   are_disjunctions_stored,
   are_disjuncts_stored,
 };
-ghost use Rattle.gdp_grammar.specs.Canonical.{
-  text_of,
-  row_line,
-  logic_line,
-  block_lines,
-  disjunctions_lines,
-  disjuncts_lines,
-  lines_of_disjunction,
-  lines_of_disjunct,
-};
+ghost use Rattle.gdp_grammar.specs.Canonical.{row_line, logic_line, block_lines, disjunctions_lines, disjuncts_lines, lines_of_disjunction, lines_of_disjunct};
+ghost use Rattle.text_grammar.specs.Printing.{text_of};
 
 use crate::lines::{put_disjunct_line, put_disjunction_line, put_end_line, put_row};
 use crate::props::put_prop_line;
@@ -69,7 +61,7 @@ fn put_props(
 
 /// A block: its rows, then its disjunctions, and then its propositions.
 #[cycle(put)]
-#[tactic(auto, using(gdp_grammar::proofs::Printed::text_appended))]
+#[tactic(auto, using(text_grammar::proofs::PrintingLemmas::text_appended))]
 pub fn put_block(alloc: Global, text: &mut Text, model: &Model, block: &Block) -> Result<(), Memory>
     ensures text { OnOk result (text.new ≡ text.old ++ text_of (block_lines (model_tree model.now) (block_of block.now))) }
     ensures stored { OnOk result (is_stored (block_of block.now) ≡ true) }

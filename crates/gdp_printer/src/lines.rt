@@ -3,22 +3,8 @@
 ghost use Rattle.std.specs.Prelude.{◌≡◌, ◌∷◌, [], ◌++◌, OnOk, None, codes};
 ghost use Rattle.lp_rows.specs.Rows.{row_refusal};
 ghost use Rattle.model_tree.specs.Values.{model_tree};
-ghost use Rattle.gdp_grammar.specs.Canonical.{
-  text_of,
-  end_word,
-  kind_word as word_of_kind,
-  rel_word as word_of_rel,
-  sense_word as word_of_sense,
-  mode_word as word_of_mode,
-  name_in,
-  boolean_names,
-  var_line,
-  boolean_line,
-  row_line,
-  goal_line,
-  disjunction_line,
-  disjunct_line,
-};
+ghost use Rattle.gdp_grammar.specs.Canonical.{end_word, kind_word as word_of_kind, rel_word as word_of_rel, sense_word as word_of_sense, mode_word as word_of_mode, name_in, boolean_names, var_line, boolean_line, row_line, goal_line, disjunction_line, disjunct_line};
+ghost use Rattle.text_grammar.specs.Printing.{text_of};
 
 use crate::numbers::{put_number, put_word, quotient};
 use crate::sums::{put_goal_sum, put_sum};

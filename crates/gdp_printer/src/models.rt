@@ -4,7 +4,8 @@ ghost use Rattle.std.specs.Prelude.{◌≡◌, ◌∷◌, [], ◌++◌, OnOk, If
 ghost use Rattle.model_tree.specs.Values.{ModelTree, model_tree};
 ghost use Rattle.gdp_grammar.specs.CanonicalLaws.{AreSame};
 ghost use Rattle.gdp_grammar.specs.Spelling.{Spells};
-ghost use Rattle.gdp_grammar.specs.Canonical.{text_of, var_line, boolean_line, free_from, canonical_lines, canonical_text};
+ghost use Rattle.gdp_grammar.specs.Canonical.{var_line, boolean_line, free_from, canonical_lines, canonical_text};
+ghost use Rattle.text_grammar.specs.Printing.{text_of};
 
 use crate::blocks::put_block;
 use crate::indicators::{indicators_of, is_indicator};
@@ -51,7 +52,7 @@ fn put_header(alloc: Global, text: &mut Text) -> Result<(), Memory>
 }
 
 // All lines of a model.
-#[tactic(auto, using(gdp_grammar::proofs::Printed::text_appended))]
+#[tactic(auto, using(text_grammar::proofs::PrintingLemmas::text_appended))]
 fn put_model(alloc: Global, text: &mut Text, model: &Model) -> Result<(), Memory>
     ensures text { OnOk result (text.new ≡ text.old ++ text_of (canonical_lines (model_tree model.now))) }
     ensures spells { OnOk result ((spelled : ModelTree) × Spells (canonical_text (model_tree model.now)) spelled × AreSame spelled (model_tree model.now)) }

@@ -2,7 +2,8 @@
 
 ghost use Rattle.std.specs.Prelude.{◌≡◌, ◌∷◌, ◌++◌, OnOk, pos, ◌<ℤ◌, int_lt};
 ghost use Rattle.std.specs.Fmt.{decimal};
-ghost use Rattle.gdp_grammar.specs.Canonical.{size_word, minus_word, sign_word, number_word};
+ghost use Rattle.gdp_grammar.specs.Canonical.{size_word, number_word};
+ghost use Rattle.text_grammar.specs.Printing.{minus_word, sign_word};
 ghost use Rattle.gdp_grammar.specs.Lowest.{over};
 
 use fractions::Frac;

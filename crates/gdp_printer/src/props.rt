@@ -4,7 +4,8 @@ ghost use Rattle.std.specs.Prelude.{◌≡◌, ◌∷◌, [], ◌++◌, OnOk, co
 ghost use Rattle.std.specs.Fmt.{decimal};
 ghost use Rattle.propositions.specs.View.{prop_tree, prop_trees};
 ghost use Rattle.model_tree.specs.Values.{model_tree};
-ghost use Rattle.gdp_grammar.specs.Canonical.{name_in, line_of, boolean_names};
+ghost use Rattle.gdp_grammar.specs.Canonical.{name_in, boolean_names};
+ghost use Rattle.text_grammar.specs.Printing.{line_of};
 ghost use Rattle.gdp_grammar.specs.PropNames.{named_in, all_named_in, prop_text, arguments_text};
 
 use crate::numbers::put_digits;

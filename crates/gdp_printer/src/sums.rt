@@ -2,16 +2,8 @@
 
 ghost use Rattle.std.specs.Prelude.{◌≡◌, [], ◌∷◌, ◌++◌, OnOk, pos, ◌<ℤ◌};
 ghost use Rattle.model_tree.specs.Values.{model_tree};
-ghost use Rattle.gdp_grammar.specs.Canonical.{
-  spaced,
-  var_names,
-  name_in,
-  terms_over,
-  further_terms,
-  sum_words,
-  constant_words,
-  goal_words,
-};
+ghost use Rattle.gdp_grammar.specs.Canonical.{var_names, name_in, terms_over, further_terms, sum_words, constant_words, goal_words};
+ghost use Rattle.text_grammar.specs.Printing.{spaced};
 ghost use Rattle.gdp_grammar.specs.Lowest.{over};
 
 use crate::numbers::{put_number, put_signed, put_word, quotient};

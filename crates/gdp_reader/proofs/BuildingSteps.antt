@@ -5,9 +5,10 @@ use Rattle.gdp_lines.specs.declared.form.Summand.{Summand as Term}
 use Rattle.gdp_lines.specs.Lines.{summand, named_summand}
 use Rattle.gdp_grammar.specs.declared.cause.ReadCause.{ReadCause}
 use Rattle.gdp_grammar.specs.declared.cause.ReadCause.TheVariants as cause
-use Rattle.gdp_grammar.specs.Causes.{◌>>=◌}
+use Rattle.text_grammar.specs.Outcomes.{◌>>=◌}
 use Rattle.gdp_grammar.specs.Forms.{Summand}
-use Rattle.gdp_grammar.specs.Reading.{or_cause, id_of, known_terms}
+use Rattle.gdp_grammar.specs.Reading.{id_of, known_terms}
+use Rattle.text_grammar.specs.Outcomes.{or_cause}
 use Rattle.model_tree.specs.Variables.{VarValue}
 
 -- terms before those that are read

@@ -5,10 +5,10 @@ use Rattle.model_tree.specs.declared.errors.BuildError.TheVariants as refusal
 use Rattle.model_builder.specs.Building.{finish_outcome}
 use Rattle.model_tree.specs.Values.{ModelTree, ModelValue, model_tree}
 use Rattle.gdp_grammar.specs.declared.cause.ReadCause.{ReadCause}
-use Rattle.gdp_grammar.specs.Following.{at_line, text_gives}
+use Rattle.text_grammar.specs.Grammars.{at_line, given_by}
 use Rattle.gdp_grammar.specs.Reading.{Taken, finished, model_after, cause_of}
 use Rattle.gdp_grammar.specs.Spelling.{Spells}
-use Rattle.gdp_grammar.proofs.Followed.{spelled, given, first_bad}
+use Rattle.text_grammar.proofs.GrammarsLemmas.{spelled_by, given_spelled, first_bad_by}
 use Rattle.gdp_reader.specs.declared.error.ReadError.{ReadError}
 use Rattle.gdp_reader.specs.declared.error.ReadError.TheVariants as error
 use Rattle.gdp_lines.specs.declared.fault.LineError.TheVariants.{Refused}
@@ -46,18 +46,18 @@ end_refused t line e cause headed refused told =
     err_of bad = Err bad
 
 -- what is read is spelled
-pub found_spelled : (text : List ℕ) (r : Result ModelValue ReadError) → GivesText model_tree r (text_gives text) → IfOk r (λ model. Spells text (model_tree model))
-found_spelled text (Ok m) gives = spelled text (model_tree m) gives
+pub found_spelled : (text : List ℕ) (r : Result ModelValue ReadError) → GivesText model_tree r (given_by text) → IfOk r (λ model. Spells text (model_tree model))
+found_spelled text (Ok m) gives = spelled_by text (model_tree m) gives
 found_spelled text (Err e) gives = tt
 
 -- what is spelled is read
-pub only_spelled : (text : List ℕ) (r : Result ModelValue ReadError) → GivesText model_tree r (text_gives text) → (m : ModelTree) → Spells text m → IsReadAs m r
-only_spelled text (Ok read) gives m s = cc (gives, given text m s)
+pub only_spelled : (text : List ℕ) (r : Result ModelValue ReadError) → GivesText model_tree r (given_by text) → (m : ModelTree) → Spells text m → IsReadAs m r
+only_spelled text (Ok read) gives m s = cc (gives, given_spelled text m s)
 only_spelled text (Err error.Memory) gives m s = tt
-only_spelled text (Err (error.At line cause)) gives m s = absurd (cc (gives, given text m s))
+only_spelled text (Err (error.At line cause)) gives m s = absurd (cc (gives, given_spelled text m s))
 
 -- what is refused is the first bad line
-pub refused_bad : (text : List ℕ) (r : Result ModelValue ReadError) → GivesText model_tree r (text_gives text) → IfErr r (λ e. IsRefused text e)
+pub refused_bad : (text : List ℕ) (r : Result ModelValue ReadError) → GivesText model_tree r (given_by text) → IfErr r (λ e. IsRefused text e)
 refused_bad text (Ok m) gives = tt
 refused_bad text (Err error.Memory) gives = tt
-refused_bad text (Err (error.At line cause)) gives = first_bad text (line, cause) gives
+refused_bad text (Err (error.At line cause)) gives = first_bad_by text (line, cause) gives

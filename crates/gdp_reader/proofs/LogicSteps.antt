@@ -12,7 +12,7 @@ use Rattle.model_builder.specs.Props.{nodes_so_far, refusal_of_prop, prop_outcom
 use Rattle.model_tree.specs.Variables.{BooleanValue}
 use Rattle.gdp_grammar.specs.declared.cause.ReadCause.{ReadCause}
 use Rattle.gdp_grammar.specs.declared.cause.ReadCause.TheVariants as cause
-use Rattle.gdp_grammar.specs.Causes.{◌>>=◌, refuse_if}
+use Rattle.text_grammar.specs.Outcomes.{◌>>=◌, refused_where}
 use Rattle.gdp_grammar.specs.PropNames.{are_known, tree_in}
 use Rattle.gdp_grammar.specs.PropReading.{prop_of}
 use Rattle.gdp_grammar.specs.PropSizes.{named_greatest, named_depth, named_nodes, named_most}
@@ -31,15 +31,15 @@ use Rattle.prop_reader.specs.SizeCauses.{refusal_of_named}
 -- what follows a proposition that is read
 abbrev pub added : BuildingValue → ℕ → NamedProp → Result BuildingValue ReadCause
 added b line p =
-    refuse_if (not (are_known b.booleans p)) cause.NameUnknown >>= (λ known. after_call (prop_outcome (tree_in b.booleans p) line b))
+    refused_where (not (are_known b.booleans p)) cause.NameUnknown >>= (λ known. after_call (prop_outcome (tree_in b.booleans p) line b))
 
 pub in_a_block : (b : BuildingValue) (line : ℕ) (ts : List Piece) → is_some b.opened ≡ false → with_logic b line ts ≡ (prop_of ts >>= λ p. added b line p)
 unfolding with_logic
-in_a_block b line ts closed = ap (λ t. refuse_if t cause.Form >>= (λ place. prop_of ts >>= λ p. added b line p)) closed
+in_a_block b line ts closed = ap (λ t. refused_where t cause.Form >>= (λ place. prop_of ts >>= λ p. added b line p)) closed
 
 pub in_a_disjunction : (b : BuildingValue) (line : ℕ) (ts : List Piece) → is_some b.opened ≡ true → with_logic b line ts ≡ Err cause.Form
 unfolding with_logic
-in_a_disjunction b line ts open_one = ap (λ t. refuse_if t cause.Form >>= (λ place. prop_of ts >>= λ p. added b line p)) open_one
+in_a_disjunction b line ts open_one = ap (λ t. refused_where t cause.Form >>= (λ place. prop_of ts >>= λ p. added b line p)) open_one
 
 -- the tests of the builder, by the sizes of the text
 record SameTests (b : BuildingValue) (p : NamedProp) : Type 0 where
@@ -119,12 +119,12 @@ refused_alike b line p c closed formed e = known (are_known b.booleans p) refl e
     known : (k : Bool) → are_known b.booleans p ≡ k → refusal_of_named b.booleans p ≡ Some c → added b line p ≡ Err c
     known false k e = rw k at_once
       where
-        at_once : refuse_if (not false) cause.NameUnknown >>= (λ known. after_call (prop_outcome (tree_in b.booleans p) line b)) ≡ Err c
+        at_once : refused_where (not false) cause.NameUnknown >>= (λ known. after_call (prop_outcome (tree_in b.booleans p) line b)) ≡ Err c
         at_once = cc (sym (ap (λ x. if not x then Some cause.NameUnknown else (if not (nat_le (named_greatest p) 1000) then Some cause.Number
             else (if not (nat_le (named_depth p) 16) then Some cause.Nesting
             else (if not (nat_le (named_nodes p) 5000) || not (nat_le (named_most p) 200) then Some cause.Limit else None)))) k) ∙ e)
     known true k e =
-        ap (λ x. refuse_if (not x) cause.NameUnknown >>= (λ known. after_call (prop_outcome (tree_in b.booleans p) line b))) k
+        ap (λ x. refused_where (not x) cause.NameUnknown >>= (λ known. after_call (prop_outcome (tree_in b.booleans p) line b))) k
         ∙ after_known (nat_le (named_greatest p) 1000) (nat_le (named_depth p) 16) (nat_le (named_nodes p) 5000) (nat_le (named_most p) 200) refl refl refl refl (same_tests b p formed k)
         (sym (ap (λ x. if not x then Some cause.NameUnknown else (if not (nat_le (named_greatest p) 1000) then Some cause.Number
         else (if not (nat_le (named_depth p) 16) then Some cause.Nesting
@@ -151,7 +151,7 @@ line_read b line ts t closed e = in_a_block b line ts closed ∙ go (prop_of ts)
         else (if not (nat_le (named_depth p) 16) then Some cause.Nesting
         else (if not (nat_le (named_nodes p) 5000) || not (nat_le (named_most p) 200) then Some cause.Limit else None)))) (tree_in b.booleans p)) k) ∙ e))
     known p true k e =
-        ap (λ x. refuse_if (not x) cause.NameUnknown >>= (λ known. after_call (prop_outcome (tree_in b.booleans p) line b))) k
+        ap (λ x. refused_where (not x) cause.NameUnknown >>= (λ known. after_call (prop_outcome (tree_in b.booleans p) line b))) k
         ∙ ap (λ x. after_call (prop_outcome x line b)) (tree_is (refusal_of_named b.booleans p) e)
       where
         tree_is : (r : Option ReadCause) → kept r (tree_in b.booleans p) ≡ Ok t → tree_in b.booleans p ≡ t

@@ -4,9 +4,9 @@ use Rattle.std.specs.Prelude.{IfOk, IfErr}
 use Rattle.lp_rows.specs.Points.{PointValue}
 use Rattle.model_tree.specs.declared.points.ModelPoint.{ModelPoint}
 use Rattle.model_tree.specs.Values.{ModelTree}
-use Rattle.gdp_grammar.specs.LineGrammars.{given_by}
+use Rattle.text_grammar.specs.Grammars.{given_by}
 use Rattle.gdp_grammar.specs.Points.{point_grammar, SpellsPoint}
-use Rattle.gdp_grammar.proofs.Threaded.{spelled_by, given_spelled, first_bad_by}
+use Rattle.text_grammar.proofs.GrammarsLemmas.{spelled_by, given_spelled, first_bad_by}
 use Rattle.gdp_reader.specs.declared.error.ReadError.{ReadError}
 use Rattle.gdp_reader.specs.declared.error.ReadError.TheVariants.{At, Memory}
 use Rattle.gdp_reader.specs.PointTaking.{point_parts, IsPointReadAs, IsPointRefused}

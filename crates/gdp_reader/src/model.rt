@@ -2,12 +2,12 @@
 
 ghost use Rattle.std.specs.Prelude.{◌≡◌, ◌^◌, ◌-◌, ◌<◌, ◌≤◌, length, IfOk, IfErr};
 ghost use Rattle.model_tree.specs.Values.{ModelTree, model_tree};
-ghost use Rattle.gdp_grammar.specs.Following.{at_line, follow, text_gives};
-ghost use Rattle.gdp_grammar.specs.Lines.{lines_of};
+ghost use Rattle.text_grammar.specs.Grammars.{at_line, follow_by, given_by};
+ghost use Rattle.text_grammar.specs.Lines.{lines_of};
 ghost use Rattle.gdp_grammar.specs.Reading.{nothing_taken, with_header, with_tokens, with_content, with_line, model_after};
 ghost use Rattle.gdp_grammar.specs.Spelling.{Spells};
 ghost use Rattle.gdp_grammar.specs.Tokens.{tokens_of};
-ghost use Rattle.gdp_grammar.specs.Words.{words_of};
+ghost use Rattle.text_grammar.specs.Words.{words_of};
 ghost use Rattle.gdp_lines.specs.Gives.{Gives};
 ghost use Rattle.gdp_reader.specs.Taking.{taken_of, GivesText, IsReadAs, IsRefused};
 
@@ -89,7 +89,7 @@ impl Taking {
 /// What the lines of a text give, and how many there are.
 fn take_lines(alloc: Global, text: &[u8]) -> Result<(Taking, u32), ReadError>
     requires { length text.now < 2 ^ 32 - 1 }
-    ensures taken { GivesText (λ x. taken_of x.0) result (follow 1 nothing_taken (lines_of text.now)) }
+    ensures taken { GivesText (λ x. taken_of x.0) result (follow_by 1 nothing_taken (lines_of text.now)) }
     ensures counted { IfOk result (λ x. x.1 ≡ length (lines_of text.now)) }
     ensures few { IfOk result (λ x. x.1 ≤ length text.now) }
 {
@@ -133,7 +133,7 @@ fn finish(alloc: Global, taking: Taking, line: u32) -> Result<Model, ReadError>
 /// The model that the lines of a text give, or its first bad line.
 fn read_text(alloc: Global, text: &[u8]) -> Result<Model, ReadError>
     requires { length text.now < 2 ^ 32 - 1 }
-    ensures { GivesText model_tree result (text_gives text.now) }
+    ensures { GivesText model_tree result (given_by text.now) }
 {
     match take_lines(alloc, text) {
         Ok((taking, lines)) => finish(alloc, taking, lines + 1),

@@ -4,9 +4,9 @@ ghost use Rattle.std.specs.Prelude.{◌≡◌, ◌^◌, ◌-◌, ◌<◌, ◌≤
 ghost use Rattle.std.specs.Option.{option_map};
 ghost use Rattle.lp_rows.specs.Points.{PointValue};
 ghost use Rattle.model_tree.specs.Values.{model_tree};
-ghost use Rattle.gdp_grammar.specs.Following.{at_line};
-ghost use Rattle.gdp_grammar.specs.LineGrammars.{follow_by, given_by};
-ghost use Rattle.gdp_grammar.specs.Lines.{lines_of};
+ghost use Rattle.text_grammar.specs.Grammars.{at_line};
+ghost use Rattle.text_grammar.specs.Grammars.{follow_by, given_by};
+ghost use Rattle.text_grammar.specs.Lines.{lines_of};
 ghost use Rattle.gdp_grammar.specs.PointReading.{no_point_taken, all_numbers as all_numbers_of, point_after};
 ghost use Rattle.gdp_grammar.specs.Points.{point_grammar, SpellsPoint};
 ghost use Rattle.gdp_reader.specs.PointTaking.{point_taken_of, point_parts, IsPointReadAs, IsPointRefused};

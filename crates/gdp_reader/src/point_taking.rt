@@ -18,7 +18,7 @@ ghost use Rattle.gdp_grammar.specs.PointReading.{
   with_point_words,
   with_point_line,
 };
-ghost use Rattle.gdp_grammar.specs.Words.{words_of};
+ghost use Rattle.text_grammar.specs.Words.{words_of};
 ghost use Rattle.gdp_reader.specs.Denominators.{is_denominator};
 ghost use Rattle.gdp_lines.specs.Gives.{Gives};
 ghost use Rattle.gdp_lines.specs.PointLines.{integer, point_form};

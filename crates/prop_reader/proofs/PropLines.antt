@@ -7,18 +7,18 @@ use Rattle.propositions.specs.declared.tree.Prop.{Prop}
 use Rattle.model_tree.specs.Variables.{BooleanValue}
 use Rattle.gdp_grammar.specs.declared.cause.ReadCause.{ReadCause}
 use Rattle.gdp_grammar.specs.declared.cause.ReadCause.TheVariants as cause
-use Rattle.gdp_grammar.specs.Causes.{◌>>=◌}
+use Rattle.text_grammar.specs.Outcomes.{◌>>=◌}
 use Rattle.gdp_grammar.specs.PropNames.{tree_in, are_known}
 use Rattle.gdp_grammar.specs.PropReading.{prop_of}
 use Rattle.gdp_grammar.specs.PropTexts.{NamedProp}
 use Rattle.gdp_grammar.specs.Tokens.{Piece}
-use Rattle.gdp_grammar.proofs.Cutting.{told}
+use Rattle.text_grammar.proofs.Bools.{told}
 use Rattle.gdp_lines.specs.declared.fault.LineError.{LineError}
 use Rattle.gdp_lines.specs.declared.fault.LineError.TheVariants.{Refused, Memory}
 use Rattle.prop_reader.specs.declared.measure.Size.{Size}
 use Rattle.gdp_lines.specs.Gives.{Fails, Gives}
 use Rattle.prop_reader.specs.LogicLines.{kept, kept_tree, line_tree}
-use Rattle.gdp_grammar.specs.Causes.{result_map}
+use Rattle.text_grammar.specs.Outcomes.{result_map}
 use Rattle.gdp_grammar.specs.PropSizes.{named_greatest, named_depth, named_nodes, named_most}
 use Rattle.prop_reader.specs.SizeCauses.{refusal_by, refusal_of_size, refusal_of_named}
 use Rattle.prop_reader.specs.Sizes.{size_of}

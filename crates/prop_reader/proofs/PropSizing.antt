@@ -9,7 +9,7 @@ use Rattle.gdp_grammar.specs.PropReading.{wants, made_of, arguments, application
 use Rattle.gdp_grammar.specs.PropTexts.{Operator, negation, pair, all, some, counted, NamedProp, applied, argument_count, takes}
 use Rattle.gdp_grammar.specs.Tokens.{Piece}
 use Rattle.prop_reader.specs.declared.measure.Size.{Size}
-use Rattle.gdp_grammar.specs.Causes.{result_map}
+use Rattle.text_grammar.specs.Outcomes.{result_map}
 use Rattle.gdp_grammar.specs.PropSizes.{named_depth, named_depth_within, named_nodes, named_nodes_within, named_most, named_most_within, number_in, named_greatest, named_greatest_within}
 use Rattle.prop_reader.specs.Sizes.{operator_end, count_end, size_of, Measured, with_size, joined_size, whole_size, closed_size, by_sizes}
 use Rattle.gdp_grammar.proofs.PropFusion.{IsHomomorphism, made_fused}

@@ -3,7 +3,7 @@ use Rattle.std.proofs.Common.{◌≡◌, ℕ, Bool, true, false, List, [], ◌�
 use Rattle.gdp_grammar.specs.declared.cause.ReadCause.{ReadCause}
 use Rattle.gdp_grammar.specs.declared.cause.ReadCause.TheVariants as cause
 use Rattle.gdp_grammar.specs.declared.symbol.Symbol.TheVariants.{Plus, Minus, Open, Close, Comma, Equal, AtMost, AtLeast}
-use Rattle.gdp_grammar.specs.Causes.{◌>>=◌}
+use Rattle.text_grammar.specs.Outcomes.{◌>>=◌}
 use Rattle.gdp_grammar.specs.Keywords.{is_reserved}
 use Rattle.gdp_grammar.specs.Numerals.{Whole, Fraction, Decimal}
 use Rattle.gdp_grammar.specs.PropReading.{Making, OperatorWord, plain, counting, operator_of, wants, opens, counts, parts, has, after_word, on, going_on, made_of}

@@ -5,12 +5,12 @@ use Rattle.std.proofs.lemmas.List.{map-append}
 use Rattle.propositions.specs.Tree.{PropTree, listed, PropTrees, prop}
 use Rattle.propositions.specs.View.{in_order}
 use Rattle.model_tree.specs.Variables.{BooleanValue}
-use Rattle.gdp_grammar.specs.Numerals.{decimal}
+use Rattle.text_grammar.specs.Digits.{value_after}
 use Rattle.gdp_grammar.specs.PropNames.{counting_connective, combined, tree_in, trees_in}
 use Rattle.gdp_grammar.specs.PropReading.{wants, made_of, arguments, application, by_names, prop_of}
 use Rattle.gdp_grammar.specs.PropTexts.{Operator, negation, pair, all, some, counted, NamedProp, named, applied, NamedProps, no_arguments, argument, takes}
 use Rattle.gdp_grammar.specs.Tokens.{Piece}
-use Rattle.gdp_grammar.specs.Causes.{result_map}
+use Rattle.text_grammar.specs.Outcomes.{result_map}
 use Rattle.gdp_grammar.specs.PropSizes.{number_in, named_greatest, named_greatest_within}
 use Rattle.prop_reader.specs.Trees.{capped_combined, capped_tree, capped_trees, OpenTree, closed_tree, by_trees}
 use Rattle.gdp_grammar.proofs.PropFusion.{IsHomomorphism, made_fused}
@@ -66,7 +66,7 @@ combined_small (pair c) ts small = refl
 combined_small all ts small = refl
 combined_small some ts small = refl
 combined_small (counted c digits) ts small =
-    let same : min (decimal 0 digits) (2 ^ 32 - 1) ≡ decimal 0 digits = omega (arith, small) in
+    let same : min (value_after 0 digits) (2 ^ 32 - 1) ≡ value_after 0 digits = omega (arith, small) in
     ap (λ (n : ℕ). listed (counting_connective c n) ts) same
 
 mutual

@@ -3,7 +3,7 @@ use Rattle.std.specs.Prelude.{List, Option, None, Some, Result, Ok, Err}
 use Rattle.propositions.specs.Tree.{PropTree}
 use Rattle.model_tree.specs.Variables.{BooleanValue}
 use Rattle.gdp_grammar.specs.declared.cause.ReadCause.{ReadCause}
-use Rattle.gdp_grammar.specs.Causes.{◌>>=◌}
+use Rattle.text_grammar.specs.Outcomes.{◌>>=◌}
 use Rattle.gdp_grammar.specs.PropNames.{tree_in}
 use Rattle.gdp_grammar.specs.PropReading.{prop_of}
 use Rattle.gdp_grammar.specs.PropTexts.{NamedProp}

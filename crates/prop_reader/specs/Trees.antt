@@ -3,7 +3,7 @@ use Rattle.std.specs.Prelude.{ℕ, List, [], ◌∷◌, ◌++◌, length, map, O
 use Rattle.propositions.specs.Tree.{PropTree, atom, listed, PropTrees, no_props, prop}
 use Rattle.propositions.specs.View.{in_order, prop_tree}
 use Rattle.model_tree.specs.Variables.{BooleanValue}
-use Rattle.gdp_grammar.specs.Numerals.{decimal}
+use Rattle.text_grammar.specs.Digits.{value_after}
 use Rattle.gdp_grammar.specs.PropNames.{boolean_number, counting_connective, combined}
 use Rattle.gdp_grammar.specs.PropReading.{Making}
 use Rattle.gdp_grammar.specs.PropTexts.{Operator, counted, NamedProp, named, applied, NamedProps, no_arguments, argument, takes}
@@ -18,7 +18,7 @@ counted_tree c n ps = listed (counting_connective (counting_value c) n) ps
 
 -- the tree of an operator, with its number as far as it goes
 abbrev pub capped_combined : Operator → PropTrees → PropTree
-capped_combined (counted c digits) ps = listed (counting_connective c (operator_end (decimal 0 digits))) ps
+capped_combined (counted c digits) ps = listed (counting_connective c (operator_end (value_after 0 digits))) ps
 capped_combined o ps = combined o ps
 
 -- the tree of a name

@@ -7,7 +7,7 @@ ghost use Rattle.model_builder.specs.Standing.{stands_for};
 ghost use Rattle.gdp_grammar.specs.PropReading.{prop_of};
 ghost use Rattle.gdp_grammar.specs.PropTexts.{takes as takes_so_many};
 ghost use Rattle.gdp_lines.specs.Gives.{Gives};
-ghost use Rattle.gdp_grammar.specs.Causes.{result_map};
+ghost use Rattle.text_grammar.specs.Outcomes.{result_map};
 ghost use Rattle.prop_reader.specs.Operators.{operator_table, operator_value};
 ghost use Rattle.prop_reader.specs.Trees.{
   capped_combined,

@@ -1,12 +1,12 @@
 //! How large a proposition is, from its tokens: nothing is built.
 
 ghost use Rattle.std.specs.Prelude.{◌≡◌, ◌+◌, ◌-◌, ◌*◌, ◌^◌, min};
-ghost use Rattle.model_builder.specs.Standing.{stands_for};
-ghost use Rattle.gdp_grammar.specs.Numerals.{decimal};
+ghost use Rattle.model_tree.specs.Standing.{stands_for};
+ghost use Rattle.text_grammar.specs.Digits.{value_after};
 ghost use Rattle.gdp_grammar.specs.PropReading.{prop_of};
 ghost use Rattle.gdp_grammar.specs.PropTexts.{takes as takes_so_many};
 ghost use Rattle.gdp_lines.specs.Gives.{Gives};
-ghost use Rattle.gdp_grammar.specs.Causes.{result_map};
+ghost use Rattle.text_grammar.specs.Outcomes.{result_map};
 ghost use Rattle.prop_reader.specs.Operators.{operator_table, operator_value};
 ghost use Rattle.prop_reader.specs.Sizes.{
   operator_number,
@@ -24,7 +24,7 @@ use gdp_grammar::ReadCause;
 use gdp_lines::fault::LineError;
 use gdp_lines::token::Tokens;
 use gdp_tables::Words;
-use model_builder::ModelBuilder;
+use model_tree::ModelBuilder;
 use std::alloc::Global;
 
 /// The size of a proposition: whether each name is that of a Boolean, the greatest number of a counting operator, the
@@ -58,7 +58,7 @@ fn push_digit(number: u32, digit: u8) -> u32
 
 /// The number that digits spell.
 pub fn number_of(digits: &[u8]) -> u32
-    ensures { result ≡ min (decimal 0 digits.now) (2 ^ 32 - 1) }
+    ensures { result ≡ min (value_after 0 digits.now) (2 ^ 32 - 1) }
 {
     let mut number = 0;
     'digits: for digit in digits {

@@ -7,3 +7,4 @@ pub mod LexersLemmas
 pub mod LinesLemmas
 pub mod PrintingLemmas
 pub mod TokensLeft
+pub mod WordsLemmas

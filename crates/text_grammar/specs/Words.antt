@@ -3,9 +3,9 @@ use Rattle.std.specs.Prelude.{ℕ, Bool, true, false, ◌&&◌, List, [], ◌∷
 use Rattle.text_grammar.specs.Bytes.{is_solid, front, rest}
 use Rattle.text_grammar.specs.Lexers.{Lexer, tokens_by}
 
--- a word, and what follows it
+-- the word that begins with this byte and goes on up to a blank, and the rest
 abbrev pub word_of : Lexer (List ℕ)
-word_of b bs = (front is_solid (b ∷ bs), rest is_solid (b ∷ bs))
+word_of b bs = (b ∷ front is_solid bs, rest is_solid bs)
 
 -- the words of a line
 unfoldable pub words_of : List ℕ → List (List ℕ)

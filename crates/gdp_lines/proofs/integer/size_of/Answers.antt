@@ -1,5 +1,5 @@
 use Rattle.std.proofs.Common.{ℕ, sym, ◌∙◌, drop, get_or, ◌+◌, ◌-◌, ◌*◌, ◌≡◌, arith}
-use Rattle.gdp_grammar.specs.Numerals.{decimal}
+use Rattle.text_grammar.specs.Digits.{value_after}
 use Rattle.gdp_lines.proofs.Values.{decimal_grows, decimal_more}
 use Rattle.gdp_lines.proofs.integer.size_of.Goals as goal
 
@@ -7,5 +7,5 @@ pub returns-in-None-clause-none : goal.returns-in-None-clause-none
 returns-in-None-clause-none c =
     let next : ℕ = c.digits.size * 10 + (get_or c.args.digits.now c.digits.digit-index 0 - 48) in
     let rest = drop (c.digits.digit-index + 1) c.args.digits.now in
-    let same : decimal next rest ≡ decimal 0 c.args.digits.now = sym (decimal_more c.args.digits.now c.digits.digit-index c.digits.size c.digits-test.true) ∙ c.digits.invariant in
+    let same : value_after next rest ≡ value_after 0 c.args.digits.now = sym (decimal_more c.args.digits.now c.digits.digit-index c.digits.size c.digits-test.true) ∙ c.digits.invariant in
     omega (arith, c.in-None.ensures.none, decimal_grows next rest, same)

@@ -1,6 +1,6 @@
 use Rattle.std.proofs.Common.{sym, ◌-◌, length, arith}
 use Rattle.std.proofs.lemmas.Grind.{common_steps}
-use Rattle.gdp_grammar.proofs.Cutting.{without_return_is}
+use Rattle.text_grammar.proofs.LinesLemmas.{without_return_is}
 use Rattle.gdp_lines.proofs.line.without_return.Goals as goal
 
 pub returns-then-line-last-ne13 : goal.returns-then-line-last-ne13

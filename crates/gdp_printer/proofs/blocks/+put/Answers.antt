@@ -2,7 +2,8 @@ use Rattle.std.proofs.Common.{◌∙◌, ap, sym}
 use Rattle.gdp_grammar.proofs.Printed.{disjunctions_text_at, disjuncts_text_at}
 use Rattle.model_tree.specs.Values.{model_tree}
 use Rattle.model_tree.specs.View.{block_of, disjunct_of, disjunction_of, disjuncts_of, disjunctions_of}
-use Rattle.gdp_grammar.specs.Canonical.{text_of, disjunctions_lines, disjuncts_lines}
+use Rattle.gdp_grammar.specs.Canonical.{disjunctions_lines, disjuncts_lines}
+use Rattle.text_grammar.specs.Printing.{text_of}
 use Rattle.model_tree.specs.Sound.{are_disjuncts_stored, is_stored}
 use Rattle.gdp_printer.proofs.Texts.{on_ok, grown, block_put, disjunction_put, disjunct_put}
 use Rattle.gdp_printer.proofs.Stored.{block_stored, disjunctions_stored_at, disjuncts_stored_at}

@@ -1,7 +1,8 @@
 use Rattle.std.proofs.Common.{◌≡◌, ◌++◌, drop}
 use Rattle.model_tree.specs.Values.{model_tree}
 use Rattle.model_tree.specs.View.{disjuncts_of, disjunctions_of}
-use Rattle.gdp_grammar.specs.Canonical.{text_of, disjunctions_lines, disjuncts_lines}
+use Rattle.gdp_grammar.specs.Canonical.{disjunctions_lines, disjuncts_lines}
+use Rattle.text_grammar.specs.Printing.{text_of}
 use Rattle.model_tree.specs.Sound.{are_disjunctions_stored, are_disjuncts_stored}
 use Rattle.gdp_printer.proofs.blocks.+put.Given as goal
 

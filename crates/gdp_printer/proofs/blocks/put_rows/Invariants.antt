@@ -1,6 +1,7 @@
 use Rattle.std.proofs.Common.{◌≡◌, ◌++◌, drop, map}
 use Rattle.model_tree.specs.Values.{model_tree}
-use Rattle.gdp_grammar.specs.Canonical.{text_of, row_line}
+use Rattle.gdp_grammar.specs.Canonical.{row_line}
+use Rattle.text_grammar.specs.Printing.{text_of}
 use Rattle.model_tree.specs.Sound.{are_rows_stored}
 use Rattle.gdp_printer.proofs.blocks.put_rows.Given as goal
 

@@ -1,5 +1,6 @@
 use Rattle.std.proofs.Common.{◌≡◌, ◌++◌, drop, map}
-use Rattle.gdp_grammar.specs.Canonical.{text_of, boolean_line, free_from}
+use Rattle.gdp_grammar.specs.Canonical.{boolean_line, free_from}
+use Rattle.text_grammar.specs.Printing.{text_of}
 use Rattle.gdp_printer.proofs.models.put_booleans.Given as goal
 
 abbrev pub invariant-loop-place : goal.invariant-loop-place

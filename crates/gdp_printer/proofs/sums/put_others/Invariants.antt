@@ -1,6 +1,7 @@
 use Rattle.std.proofs.Common.{◌≡◌, ◌++◌, drop}
 use Rattle.model_tree.specs.Values.{model_tree}
-use Rattle.gdp_grammar.specs.Canonical.{spaced, var_names, terms_over, further_terms}
+use Rattle.gdp_grammar.specs.Canonical.{var_names, terms_over, further_terms}
+use Rattle.text_grammar.specs.Printing.{spaced}
 use Rattle.gdp_printer.proofs.sums.put_others.Given as goal
 
 abbrev pub invariant-loop-term : goal.invariant-loop-term

@@ -1,7 +1,7 @@
 use Rattle.std.proofs.Common.{◌≡◌, ◌+◌, ◌≤◌, length}
 use Rattle.model_tree.specs.Values.{model_tree}
-use Rattle.gdp_grammar.specs.LineGrammars.{follow_by}
-use Rattle.gdp_grammar.specs.Lines.{lines_of}
+use Rattle.text_grammar.specs.Grammars.{follow_by}
+use Rattle.text_grammar.specs.Lines.{lines_of}
 use Rattle.gdp_grammar.specs.PointReading.{no_point_taken}
 use Rattle.gdp_grammar.specs.Points.{point_grammar}
 use Rattle.gdp_reader.specs.PointTaking.{point_taken_of}

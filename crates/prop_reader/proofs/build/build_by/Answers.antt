@@ -4,7 +4,7 @@ use Rattle.std.proofs.Common.{ap, ◌∙◌, List, None, refl}
 use Rattle.model_builder.specs.Standing.{stands_for}
 use Rattle.gdp_grammar.specs.PropReading.{prop_of, made_of, wants}
 use Rattle.prop_reader.specs.Heads.{head_value}
-use Rattle.gdp_grammar.specs.Causes.{result_map}
+use Rattle.text_grammar.specs.Outcomes.{result_map}
 use Rattle.prop_reader.specs.declared.build.Opened.{Opened}
 use Rattle.prop_reader.specs.Trees.{capped_tree, by_trees, opened_value}
 use Rattle.prop_reader.proofs.PropJoints.{inward}

@@ -3,7 +3,7 @@ use Rattle.std.specs.Option.{option_map}
 use Rattle.propositions.specs.View.{prop_tree}
 use Rattle.model_builder.specs.Standing.{stands_for}
 use Rattle.gdp_grammar.specs.PropReading.{made_of, prop_of}
-use Rattle.gdp_grammar.specs.Causes.{result_map}
+use Rattle.text_grammar.specs.Outcomes.{result_map}
 use Rattle.prop_reader.specs.Trees.{capped_tree, by_trees, opened_value}
 use Rattle.prop_reader.proofs.PropJoints.{inward, place_of}
 use Rattle.prop_reader.proofs.build.build_by.Given as goal

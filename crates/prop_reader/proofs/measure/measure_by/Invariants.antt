@@ -1,7 +1,7 @@
 use Rattle.std.proofs.Common.{◌≡◌, length}
 use Rattle.model_builder.specs.Standing.{stands_for}
 use Rattle.gdp_grammar.specs.PropReading.{made_of, prop_of}
-use Rattle.gdp_grammar.specs.Causes.{result_map}
+use Rattle.text_grammar.specs.Outcomes.{result_map}
 use Rattle.prop_reader.specs.Sizes.{size_of, by_sizes, frame_value}
 use Rattle.prop_reader.proofs.PropJoints.{inward, place_of}
 use Rattle.prop_reader.proofs.measure.measure_by.Given as goal

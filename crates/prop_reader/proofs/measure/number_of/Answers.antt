@@ -1,5 +1,5 @@
 use Rattle.std.proofs.Common.{◌∙◌, ◌≤◌, ◌-◌, ◌^◌, min, length, arith}
-use Rattle.gdp_grammar.specs.Numerals.{decimal}
+use Rattle.text_grammar.specs.Digits.{value_after}
 use Rattle.prop_reader.proofs.PropNumbers.{digit_capped, all_digits}
 use Rattle.prop_reader.proofs.measure.number_of.Goals as goal
 
@@ -14,4 +14,4 @@ digits-preserved c = record {
 pub returns : goal.returns
 returns c =
     let past : length c.args.digits.now ≤ c.digits.digit-index = omega arith in
-    all_digits (2 ^ 32 - 1) c.digits.number (min (decimal 0 c.args.digits.now) (2 ^ 32 - 1)) c.digits.digit-index c.args.digits.now past c.digits.invariant.small c.digits.invariant.value
+    all_digits (2 ^ 32 - 1) c.digits.number (min (value_after 0 c.args.digits.now) (2 ^ 32 - 1)) c.digits.digit-index c.args.digits.now past c.digits.invariant.small c.digits.invariant.value
