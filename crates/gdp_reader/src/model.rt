@@ -11,7 +11,7 @@ ghost use Rattle.gdp_grammar.specs.Words.{words_of};
 ghost use Rattle.gdp_lines.specs.Gives.{Gives};
 ghost use Rattle.gdp_reader.specs.Taking.{taken_of, GivesText, IsReadAs, IsRefused};
 
-use crate::building::{add, refused};
+use crate::building::add;
 use crate::error::ReadError;
 use gdp_grammar::ReadCause;
 use gdp_lines::fault::LineError;
@@ -98,10 +98,8 @@ fn take_lines(alloc: Global, text: &[u8]) -> Result<(Taking, u32), ReadError>
     'lines: while !rest.is_empty() {
         let (first, after) = first_line(rest);
         lines += 1;
-        match taking.take(alloc, lines, first) {
-            Ok(()) => {}
-            Err(LineError::Refused(cause)) => return Err(ReadError::At { line: lines, cause }),
-            Err(LineError::Memory) => return Err(ReadError::Memory),
+        if let Err(error) = taking.take(alloc, lines, first) {
+            return Err(ReadError::at(lines, error));
         }
         rest = after;
     }
@@ -122,10 +120,7 @@ fn finish(alloc: Global, taking: Taking, line: u32) -> Result<Model, ReadError>
     let Taking { builder, .. } = taking;
     match builder.finish(alloc) {
         Ok(model) => Ok(model),
-        Err((_, refusal)) => match refused(refusal) {
-            LineError::Refused(cause) => Err(ReadError::At { line, cause }),
-            LineError::Memory => Err(ReadError::Memory),
-        },
+        Err((_, refusal)) => Err(ReadError::at(line, LineError::from(refusal))),
     }
 }
 
@@ -134,10 +129,8 @@ fn read_text(alloc: Global, text: &[u8]) -> Result<Model, ReadError>
     requires { length text.now < 2 ^ 32 - 1 }
     ensures { GivesText model_tree result (text_gives text.now) }
 {
-    match take_lines(alloc, text) {
-        Ok((taking, lines)) => finish(alloc, taking, lines + 1),
-        Err(error) => Err(error),
-    }
+    let (taking, lines) = take_lines(alloc, text)?;
+    finish(alloc, taking, lines + 1)
 }
 
 /// The model that a text spells, or its first bad line with its cause.
@@ -145,7 +138,7 @@ pub fn read_model(alloc: Global, text: &[u8]) -> Result<Model, ReadError>
     requires { length text.now < 2 ^ 32 - 1 }
     // What is read is spelled.
     ensures found { IfOk result (λ model. Spells text.now (model_tree model)) }
-    // What is spelled is read, and nothing else, unless memory was wanted.
+    // What is spelled is read, and nothing else, unless memory ran out.
     ensures only { (m : ModelTree) → Spells text.now m → IsReadAs m result }
     // What is refused is the first bad line, with its cause.
     ensures refused { IfErr result (λ error. IsRefused text.now error) }
