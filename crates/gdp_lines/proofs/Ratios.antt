@@ -1,15 +1,10 @@
 -- What is made of a number's two parts is its value.
-use Rattle.std.proofs.Common.{◌≡◌, ℕ, zero, suc, ◌<◌, ◌≤◌, ◌^◌, ◌/◌, Bool, true, false, nat_le, ◌&&◌, ℤ, pos, Option, Some, None, refl, ap, sym, ◌∙◌, subst, arith, ◌⊎◌, inl, inr}
-use Rattle.std.specs.Prelude.{IfSome, IfNone}
-use Rattle.std.proofs.lemmas.Bool.{cond-true, cond-false, false≢true}
+use Rattle.std.proofs.Common.{◌≡◌, ℕ, ◌<◌, ◌≤◌, ◌^◌, Bool, true, false, nat_le, ◌&&◌, ℤ, pos, Option, Some, None, refl, ap, sym, ◌∙◌, subst, arith}
+use Rattle.std.proofs.lemmas.Bool.{cond-true, cond-false}
 use Rattle.std.proofs.lemmas.Bool.Decides.{nat_tests}
-use Rattle.std.proofs.lemmas.Int.{ints}
-use Rattle.std.proofs.Math.Nat.{div-le_self}
-use Rattle.fractions.specs.Fraction.{Fraction, IsReduced, fraction_fits}
-use Rattle.fractions.specs.Width.{fits}
-use Rattle.fractions.proofs.Widths.{narrow_fits}
-use Rattle.gdp_grammar.specs.Numerals.{signed, common_divisor, lowest, are_parts, ratio}
-use Rattle.gdp_grammar.proofs.Euclid.{lowest_only, size_of_signed}
+use Rattle.fractions.specs.Fraction.{Fraction, IsReduced}
+use Rattle.gdp_grammar.specs.Numerals.{signed, lowest, are_parts, ratio}
+use Rattle.gdp_grammar.proofs.Euclid.{lowest_only}
 
 some_of : Fraction → Option Fraction
 some_of f = Some f
@@ -30,37 +25,18 @@ over_nothing p = both (nat_le p (10 ^ 15))
     both true = refl
     both false = refl
 
--- parts that are in range fit when they are reduced
-reduced_fits : (is_negative : Bool) (p q : ℕ) → p ≤ 10 ^ 15 → q ≤ 10 ^ 15 → fraction_fits (lowest is_negative p q) ≡ true
-reduced_fits is_negative p q over under =
-    let d : ℕ = common_divisor p q in
-    let num : fits (signed is_negative (p / d)) ≡ true =
-    narrow_fits (signed is_negative (p / d)) (omega (arith, size_of_signed is_negative (p / d), div-le_self p d, over)) in
-    let den : fits (pos (q / d)) ≡ true = narrow_fits (pos (q / d)) (omega (arith, div-le_self q d, under)) in
-    ap (λ b. b && fits (pos (q / d))) num ∙ den
+-- a part over 0 has no value
+pub no_ratio : (is_negative : Bool) (p q : ℕ) → q ≡ 0 → None ≡ ratio is_negative p q
+no_ratio is_negative p q none = sym (ap (ratio is_negative p) none ∙ cond-false (are_parts p 0) (Some (lowest is_negative p 0)) None (over_nothing p))
 
-made : (is_negative : Bool) (p q : ℕ) (r : Option Fraction) → p ≤ 10 ^ 15 → q ≤ 10 ^ 15
-    → IfSome r (IsReduced (signed is_negative p) (pos q))
-    → IfNone r ((pos q ≡ pos 0) ⊎ ((f : Fraction) × IsReduced (signed is_negative p) (pos q) f × (fraction_fits f ≡ false)))
-    → r ≡ ratio is_negative p q
+made : (is_negative : Bool) (p q : ℕ) (f : Fraction) → p ≤ 10 ^ 15 → q ≤ 10 ^ 15 → 0 < q → IsReduced (signed is_negative p) (pos q) f → Some f ≡ ratio is_negative p q
 unfolding some_of
-made is_negative p zero (Some f) over under reduced none = absurd (reduced.divisible refl)
-made is_negative p (suc q) (Some f) over under reduced none =
-    ap some_of (lowest_only is_negative p (suc q) f (omega arith) reduced)
-    ∙ sym (cond-true (are_parts p (suc q)) (Some (lowest is_negative p (suc q))) None (parts_in_range p (suc q) over (omega arith) under))
-made is_negative p zero None over under reduced none = sym (cond-false (are_parts p 0) (Some (lowest is_negative p 0)) None (over_nothing p))
-made is_negative p (suc q) None over under reduced (inl e) = absurd (omega (arith, ints, e))
-made is_negative p (suc q) None over under reduced (inr wide) =
-    let same : wide.0 ≡ lowest is_negative p (suc q) = lowest_only is_negative p (suc q) wide.0 (omega arith) wide.1 in
-    absurd (false≢true (sym wide.2 ∙ ap fraction_fits same ∙ reduced_fits is_negative p (suc q) over under))
+made is_negative p q f over under some reduced =
+    ap some_of (lowest_only is_negative p q f some reduced)
+    ∙ sym (cond-true (are_parts p q) (Some (lowest is_negative p q)) None (parts_in_range p q over some under))
 
 -- what is made of these two numbers, which are the parts
-pub ratio_made : (num den : ℤ) (is_negative : Bool) (p q : ℕ) (r : Option Fraction) → num ≡ signed is_negative p → den ≡ pos q → p ≤ 10 ^ 15 → q ≤ 10 ^ 15
-    → IfSome r (IsReduced num den)
-    → IfNone r ((den ≡ pos 0) ⊎ ((f : Fraction) × IsReduced num den f × (fraction_fits f ≡ false)))
-    → r ≡ ratio is_negative p q
-ratio_made num den is_negative p q r e f over under reduced none =
-    made is_negative p q r over under
-    (subst (λ (n : ℤ). IfSome r (IsReduced n (pos q))) e (subst (λ (d : ℤ). IfSome r (IsReduced num d)) f reduced))
-    (subst (λ (n : ℤ). IfNone r ((pos q ≡ pos 0) ⊎ ((f : Fraction) × IsReduced n (pos q) f × (fraction_fits f ≡ false)))) e
-    (subst (λ (d : ℤ). IfNone r ((d ≡ pos 0) ⊎ ((f : Fraction) × IsReduced num d f × (fraction_fits f ≡ false)))) f none))
+pub ratio_made : (num den : ℤ) (is_negative : Bool) (p q : ℕ) (f : Fraction) → num ≡ signed is_negative p → den ≡ pos q → p ≤ 10 ^ 15 → q ≤ 10 ^ 15 → 0 < q → IsReduced num den f → Some f ≡ ratio is_negative p q
+ratio_made num den is_negative p q f over_is under_is over under some reduced =
+    made is_negative p q f over under some
+    (subst (λ (n : ℤ). IsReduced n (pos q) f) over_is (subst (λ (d : ℤ). IsReduced num d f) under_is reduced))

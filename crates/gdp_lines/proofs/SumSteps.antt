@@ -4,18 +4,12 @@ use Rattle.std.proofs.lemmas.List.{map-append, length-drop}
 use Rattle.gdp_grammar.specs.declared.cause.ReadCause.{ReadCause}
 use Rattle.gdp_grammar.specs.Forms.{Summand, summand_of, joint_of}
 use Rattle.gdp_grammar.specs.Tokens.{Piece}
-use Rattle.gdp_grammar.proofs.Sums.{GoesOn, no_term, is_last, goes_on, summand_left}
+use Rattle.gdp_grammar.proofs.Sums.{GoesOn, is_last, goes_on, summand_left}
 use Rattle.gdp_lines.specs.declared.fault.LineError.{LineError}
-use Rattle.gdp_lines.specs.declared.fault.LineError.TheVariants.{Refused, Memory}
 use Rattle.gdp_lines.specs.declared.form.Summand.{Summand as Term}
 use Rattle.std.specs.Prelude.{IsErrAnd}
 use Rattle.gdp_lines.specs.Gives.{Fails, Gives}
 use Rattle.gdp_lines.specs.Lines.{summand}
-
-pub fails_here : (front : List Summand) (is_negative : Bool) (ps : List Piece) (whole : Result (List Summand × List Piece) ReadCause) (e : LineError)
-    → GoesOn front is_negative ps whole → Fails e (summand_of is_negative ps) → Fails e whole
-fails_here front is_negative ps whole Memory goes fails = tt
-fails_here front is_negative ps whole (Refused cause) goes fails = no_term front is_negative ps whole cause goes fails
 
 pub ends_here : (sum pushed : List Term) (is_negative : Bool) (ps qs : List Piece) (whole : Result (List Summand × List Piece) ReadCause) (t : Term)
     → GoesOn (map summand sum) is_negative ps whole → summand_of is_negative ps ≡ Ok (summand t, qs) → pushed ≡ sum ++ t ∷ [] → joint_of qs ≡ None → whole ≡ Ok (map summand pushed, qs)

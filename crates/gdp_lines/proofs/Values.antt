@@ -1,18 +1,15 @@
 -- The values of numbers, digit by digit.
-use Rattle.std.proofs.Common.{◌≡◌, ℕ, ◌+◌, ◌-◌, ◌*◌, ◌^◌, ◌<◌, ◌≤◌, List, [], ◌∷◌, length, get_or, drop, Some, None, nat_le, false, ◌&&◌, ℤ, pos, ◌⊎◌, inl, inr, refl, ap, sym, ◌∙◌, arith}
+use Rattle.std.proofs.Common.{◌≡◌, ℕ, ◌+◌, ◌-◌, ◌*◌, ◌^◌, ◌<◌, ◌≤◌, List, [], ◌∷◌, length, get_or, drop, Some, None, nat_le, ℤ, pos, inl, inr, refl, ap, sym, ◌∙◌, arith}
 use Rattle.std.proofs.lemmas.List.{drop_more}
 use Rattle.std.proofs.lemmas.Bool.{cond-true, cond-false}
 use Rattle.std.proofs.lemmas.Bool.Decides.{nat_tests}
-use Rattle.std.specs.Prelude.{unsigned_abs, FitsSigned}
-use Rattle.std.specs.Int.{IsGcd, w128}
+use Rattle.std.specs.Prelude.{unsigned_abs}
+use Rattle.std.specs.Int.{IsGcd}
 use Rattle.std.proofs.lemmas.Int.{ints}
-use Rattle.std.proofs.lemmas.Bool.{false≢true}
 use Rattle.std.proofs.Math.Nat.{one-dvd, pow-le-pow_right}
 use Rattle.text_grammar.proofs.Bools.{told}
-use Rattle.fractions.specs.Fraction.{Fraction, IsReduced, fraction_fits}
-use Rattle.fractions.specs.Width.{fits}
+use Rattle.fractions.specs.Fraction.{Fraction, IsReduced}
 use Rattle.fractions.proofs.Reduction.{reduced_same}
-use Rattle.fractions.proofs.Widths.{fits_from_range}
 use Rattle.text_grammar.specs.Digits.{value_after}
 use Rattle.gdp_lines.specs.Ranges.{in_range}
 
@@ -47,15 +44,6 @@ whole_lowest n = record {
 
 pub whole_only : (n : ℤ) (f : Fraction) → IsReduced n (pos 1) f → f ≡ record { num = n; den = pos 1 }
 whole_only n f reduced = reduced_same n (pos 1) f (record { num = n; den = pos 1 }) reduced (whole_lowest n)
-
-one_not_zero : pos 1 ≡ pos 0 → ⊥
-one_not_zero e = absurd (omega (arith, ints, e))
-
-pub never_refused : (n : ℤ) → FitsSigned w128 n → (pos 1 ≡ pos 0) ⊎ ((f : Fraction) × IsReduced n (pos 1) f × (fraction_fits f ≡ false)) → ⊥
-never_refused n fit (inl e) = one_not_zero e
-never_refused n fit (inr f) =
-    let same : fraction_fits (record { num = n; den = pos 1 }) ≡ false = sym (ap fraction_fits (whole_only n f.0 f.1)) ∙ f.2 in
-    false≢true (sym same ∙ ap (λ b. b && fits (pos 1)) (fits_from_range n fit))
 
 -- a part that is not in range
 pub none_past : (size : ℕ) → None ≡ in_range size → 10 ^ 15 < size

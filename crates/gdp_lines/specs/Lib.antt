@@ -2,4 +2,5 @@ pub mod Gives
 pub mod Lines
 pub mod PointLines
 pub mod Ranges
+pub mod Refusals
 pub mod Tokens

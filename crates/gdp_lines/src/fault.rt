@@ -1,10 +1,11 @@
 //! Why a line isn't read.
 
 use gdp_grammar::ReadCause;
+use model_tree::BuildError;
 use outcomes::Memory;
 use std::alloc::{AllocError, AllocFailed};
 
-/// Why a line isn't read: it is refused, or memory was wanted.
+/// Why a line isn't read: it is refused, or memory ran out.
 #[derive(Clone, Copy, Debug, PartialEq, Eq)]
 pub enum LineError {
     Refused(ReadCause),
@@ -52,5 +53,26 @@ impl From<ReadCause> for LineError {
 
     fn from(cause: ReadCause) -> LineError {
         LineError::Refused(cause)
+    }
+}
+
+impl From<BuildError> for LineError {
+    ghost use Rattle.std.specs.Prelude.{◌≡◌};
+    ghost use Rattle.gdp_lines.specs.Refusals.{line_error};
+
+    ghost from_gives = { λ refusal e. e ≡ line_error refusal };
+
+    fn from(refusal: BuildError) -> LineError {
+        match refusal {
+            BuildError::Place => LineError::Refused(ReadCause::Form),
+            BuildError::NameTwice => LineError::Refused(ReadCause::NameTwice),
+            BuildError::NameUnknown => LineError::Refused(ReadCause::NameUnknown),
+            BuildError::Number => LineError::Refused(ReadCause::Number),
+            BuildError::Nesting => LineError::Refused(ReadCause::Nesting),
+            BuildError::Unclosed => LineError::Refused(ReadCause::Unclosed),
+            BuildError::Limit => LineError::Refused(ReadCause::Limit),
+            BuildError::Missing => LineError::Refused(ReadCause::Missing),
+            BuildError::Memory => LineError::Memory,
+        }
     }
 }

@@ -1,7 +1,8 @@
 //! The forms of lines.
 
-ghost use Rattle.std.specs.Prelude.{◌≡◌, map, length, drop};
+ghost use Rattle.std.specs.Prelude.{◌≡◌, map, length, drop, IfSome, IfNone};
 ghost use Rattle.std.specs.Option.{option_map};
+ghost use Rattle.text_grammar.specs.Outcomes.{result_map};
 ghost use Rattle.gdp_grammar.specs.Keywords.{is_reserved as is_reserved_word};
 ghost use Rattle.gdp_grammar.specs.Forms.{
   ended,
@@ -96,31 +97,31 @@ pub fn is_reserved(word: &str) -> bool
 }
 
 /// Nothing is left.
-fn end_of_line(tokens: &mut Tokens<'_>) -> Result<(), LineError>
-    ensures { Gives (λ x. x) result (ended tokens.old) }
+fn end_of_line(tokens: &mut Tokens<'_>) -> Result<(), ReadCause>
+    ensures { result ≡ ended tokens.old }
 {
     match tokens.next() {
         None => Ok(()),
-        Some(_) => Err(LineError::Refused(ReadCause::Form)),
+        Some(_) => Err(ReadCause::Form),
     }
 }
 
 /// A name.
-fn name_word<'a>(tokens: &mut Tokens<'a>) -> Result<&'a str, LineError>
-    ensures { Gives (λ word. (word.now, tokens.new)) result (name_of tokens.old) }
+fn name_word<'a>(tokens: &mut Tokens<'a>) -> Result<&'a str, ReadCause>
+    ensures { name_of tokens.old ≡ result_map (λ word. (word.now, tokens.new)) result }
 {
     match tokens.next() {
         Some(Token::Word(word)) if !is_reserved(word) => Ok(word),
-        _ => Err(LineError::Refused(ReadCause::Form)),
+        _ => Err(ReadCause::Form),
     }
 }
 
 /// `real` or `int`.
-fn kind_word(tokens: &mut Tokens<'_>) -> Result<Kind, LineError>
-    ensures { Gives (λ kind. (kind, tokens.new)) result (kind_of tokens.old) }
+fn kind_word(tokens: &mut Tokens<'_>) -> Result<Kind, ReadCause>
+    ensures { kind_of tokens.old ≡ result_map (λ kind. (kind, tokens.new)) result }
 {
     let Some(Token::Word(word)) = tokens.next() else {
-        return Err(LineError::Refused(ReadCause::Form));
+        return Err(ReadCause::Form);
     };
     if word == "real" {
         return Ok(Kind::Real);
@@ -128,16 +129,16 @@ fn kind_word(tokens: &mut Tokens<'_>) -> Result<Kind, LineError>
     if word == "int" {
         return Ok(Kind::Int);
     }
-    Err(LineError::Refused(ReadCause::Form))
+    Err(ReadCause::Form)
 }
 
 /// A number.
-fn number<'a>(tokens: &mut Tokens<'a>) -> Result<Numeral<'a>, LineError>
-    ensures { Gives (λ number. (spelled number, tokens.new)) result (numeral_of tokens.old) }
+fn number<'a>(tokens: &mut Tokens<'a>) -> Result<Numeral<'a>, ReadCause>
+    ensures { numeral_of tokens.old ≡ result_map (λ number. (spelled number, tokens.new)) result }
 {
     match tokens.next() {
         Some(Token::Number(number)) => Ok(number),
-        _ => Err(LineError::Refused(ReadCause::Form)),
+        _ => Err(ReadCause::Form),
     }
 }
 
@@ -160,8 +161,8 @@ fn sign(tokens: &mut Tokens<'_>) -> bool
 
 /// A number with an optional sign.
 #[tactic(auto, unfolding(gdp_grammar::specs::Forms::signed_of))]
-fn signed_number<'a>(tokens: &mut Tokens<'a>) -> Result<Signed<'a>, LineError>
-    ensures { Gives (λ n. (signed n, tokens.new)) result (signed_of tokens.old) }
+fn signed_number<'a>(tokens: &mut Tokens<'a>) -> Result<Signed<'a>, ReadCause>
+    ensures { signed_of tokens.old ≡ result_map (λ n. (signed n, tokens.new)) result }
 {
     let is_negative = sign(tokens);
     let size = number(tokens)?;
@@ -173,8 +174,8 @@ fn signed_number<'a>(tokens: &mut Tokens<'a>) -> Result<Signed<'a>, LineError>
 fn low_after_sign<'a>(
     tokens: &mut Tokens<'a>,
     is_negative: bool,
-) -> Result<Option<Signed<'a>>, LineError>
-    ensures { Gives (λ low. (option_map signed low, tokens.new)) result (low_after is_negative tokens.old) }
+) -> Result<Option<Signed<'a>>, ReadCause>
+    ensures { low_after is_negative tokens.old ≡ result_map (λ low. (option_map signed low, tokens.new)) result }
 {
     match tokens.peek() {
         Some(Token::Word(word)) if is_negative => {
@@ -182,7 +183,7 @@ fn low_after_sign<'a>(
             if word == "inf" {
                 return Ok(None);
             }
-            Err(LineError::Refused(ReadCause::Form))
+            Err(ReadCause::Form)
         }
         _ => {
             let size = number(tokens)?;
@@ -192,8 +193,8 @@ fn low_after_sign<'a>(
 }
 
 /// A low bound: a number, or `-inf` for none.
-fn low_bound<'a>(tokens: &mut Tokens<'a>) -> Result<Option<Signed<'a>>, LineError>
-    ensures { Gives (λ low. (option_map signed low, tokens.new)) result (low_of tokens.old) }
+fn low_bound<'a>(tokens: &mut Tokens<'a>) -> Result<Option<Signed<'a>>, ReadCause>
+    ensures { low_of tokens.old ≡ result_map (λ low. (option_map signed low, tokens.new)) result }
 {
     let is_negative = sign(tokens);
     low_after_sign(tokens, is_negative)
@@ -201,8 +202,8 @@ fn low_bound<'a>(tokens: &mut Tokens<'a>) -> Result<Option<Signed<'a>>, LineErro
 
 /// A high bound: a number, or `inf` for none.
 #[tactic(auto, unfolding(gdp_grammar::specs::Forms::high_of))]
-fn high_bound<'a>(tokens: &mut Tokens<'a>) -> Result<Option<Signed<'a>>, LineError>
-    ensures { Gives (λ high. (option_map signed high, tokens.new)) result (high_of tokens.old) }
+fn high_bound<'a>(tokens: &mut Tokens<'a>) -> Result<Option<Signed<'a>>, ReadCause>
+    ensures { high_of tokens.old ≡ result_map (λ high. (option_map signed high, tokens.new)) result }
 {
     match tokens.peek() {
         Some(Token::Word(word)) => {
@@ -210,7 +211,7 @@ fn high_bound<'a>(tokens: &mut Tokens<'a>) -> Result<Option<Signed<'a>>, LineErr
             if word == "inf" {
                 return Ok(None);
             }
-            Err(LineError::Refused(ReadCause::Form))
+            Err(ReadCause::Form)
         }
         _ => {
             let high = signed_number(tokens)?;
@@ -220,23 +221,23 @@ fn high_bound<'a>(tokens: &mut Tokens<'a>) -> Result<Option<Signed<'a>>, LineErr
 }
 
 /// `<=`, `>=` or `=`.
-fn relation(tokens: &mut Tokens<'_>) -> Result<Rel, LineError>
-    ensures { Gives (λ rel. (rel, tokens.new)) result (rel_of tokens.old) }
+fn relation(tokens: &mut Tokens<'_>) -> Result<Rel, ReadCause>
+    ensures { rel_of tokens.old ≡ result_map (λ rel. (rel, tokens.new)) result }
 {
     match tokens.next() {
         Some(Token::Mark(Symbol::AtMost)) => Ok(Rel::AtMost),
         Some(Token::Mark(Symbol::AtLeast)) => Ok(Rel::AtLeast),
         Some(Token::Mark(Symbol::Equal)) => Ok(Rel::Equal),
-        _ => Err(LineError::Refused(ReadCause::Form)),
+        _ => Err(ReadCause::Form),
     }
 }
 
 /// `xor` or `or`.
-fn mode_word(tokens: &mut Tokens<'_>) -> Result<Mode, LineError>
-    ensures { Gives (λ mode. (mode, tokens.new)) result (mode_of tokens.old) }
+fn mode_word(tokens: &mut Tokens<'_>) -> Result<Mode, ReadCause>
+    ensures { mode_of tokens.old ≡ result_map (λ mode. (mode, tokens.new)) result }
 {
     let Some(Token::Word(word)) = tokens.next() else {
-        return Err(LineError::Refused(ReadCause::Form));
+        return Err(ReadCause::Form);
     };
     if word == "xor" {
         return Ok(Mode::Xor);
@@ -244,13 +245,13 @@ fn mode_word(tokens: &mut Tokens<'_>) -> Result<Mode, LineError>
     if word == "or" {
         return Ok(Mode::Or);
     }
-    Err(LineError::Refused(ReadCause::Form))
+    Err(ReadCause::Form)
 }
 
 /// A term, after its sign.
 #[tactic(auto, unfolding(gdp_grammar::specs::Forms::summand_of))]
-fn term<'a>(tokens: &mut Tokens<'a>, is_negative: bool) -> Result<Summand<'a>, LineError>
-    ensures { Gives (λ term. (summand term, tokens.new)) result (summand_of is_negative tokens.old) }
+fn term<'a>(tokens: &mut Tokens<'a>, is_negative: bool) -> Result<Summand<'a>, ReadCause>
+    ensures { summand_of is_negative tokens.old ≡ result_map (λ term. (summand term, tokens.new)) result }
 {
     match tokens.peek() {
         Some(Token::Number(number)) => {
@@ -278,23 +279,27 @@ fn is_number_alone(tokens: &Tokens<'_>) -> bool
     ensures { result ≡ number_alone tokens.now }
 {
     match tokens.peek() {
-        Some(Token::Number(_)) => tokens.after_first().peek().is_none(),
+        Some(Token::Number(_)) => tokens.is_last(),
         _ => false,
     }
 }
 
-/// The sign between two terms, if one comes, which it leaves: not that of a goal's constant.
-fn joint(tokens: &Tokens<'_>) -> Option<bool>
-    ensures { result ≡ joint_of tokens.now }
+/// Takes the sign between two terms, if one comes: not that of a goal's constant.
+fn joint(tokens: &mut Tokens<'_>) -> Option<bool>
+    ensures sign { result ≡ joint_of tokens.old }
+    ensures some { IfSome result (λ _. tokens.new ≡ drop 1 tokens.old) }
+    ensures none { IfNone result (tokens.new ≡ tokens.old) }
 {
     let is_negative = match tokens.peek() {
         Some(Token::Mark(Symbol::Plus)) => false,
         Some(Token::Mark(Symbol::Minus)) => true,
         _ => return None,
     };
-    if is_number_alone(&tokens.after_first()) {
+    let others = tokens.after_first();
+    if is_number_alone(&others) {
         return None;
     }
+    *tokens = others;
     Some(is_negative)
 }
 
@@ -323,10 +328,7 @@ fn terms<'a>(
         sum.push(first)?;
         match joint(tokens) {
             None => return Ok(sum),
-            Some(sign) => {
-                tokens.skip();
-                is_negative = sign;
-            }
+            Some(sign) => is_negative = sign,
         }
     }
 }
@@ -340,8 +342,8 @@ fn is_word_second(tokens: &Tokens<'_>) -> bool
 
 /// A variable's line, after its first word.
 #[tactic(auto, unfolding(gdp_grammar::specs::Forms::var_of))]
-fn var_line<'a>(tokens: &mut Tokens<'a>) -> Result<Form<'a>, LineError>
-    ensures { Gives form result (var_of tokens.old) }
+fn var_line<'a>(tokens: &mut Tokens<'a>) -> Result<Form<'a>, ReadCause>
+    ensures { var_of tokens.old ≡ result_map form result }
 {
     let name = name_word(tokens)?;
     let kind = kind_word(tokens)?;
@@ -396,8 +398,8 @@ fn row_line<'a>(alloc: Global, tokens: &mut Tokens<'a>) -> Result<Form<'a>, Line
 
 /// A Boolean's line, after its first word.
 #[tactic(auto, unfolding(gdp_grammar::specs::Forms::boolean_of))]
-fn boolean_line<'a>(tokens: &mut Tokens<'a>) -> Result<Form<'a>, LineError>
-    ensures { Gives form result (boolean_of tokens.old) }
+fn boolean_line<'a>(tokens: &mut Tokens<'a>) -> Result<Form<'a>, ReadCause>
+    ensures { boolean_of tokens.old ≡ result_map form result }
 {
     let name = name_word(tokens)?;
     end_of_line(tokens)?;
@@ -408,8 +410,8 @@ fn boolean_line<'a>(tokens: &mut Tokens<'a>) -> Result<Form<'a>, LineError>
 fn last_number<'a>(
     tokens: &mut Tokens<'a>,
     is_negative: bool,
-) -> Result<Option<Signed<'a>>, LineError>
-    ensures { Gives (λ constant. option_map signed constant) result (last_number_of is_negative tokens.old) }
+) -> Result<Option<Signed<'a>>, ReadCause>
+    ensures { last_number_of is_negative tokens.old ≡ result_map (λ constant. option_map signed constant) result }
 {
     let size = number(tokens)?;
     end_of_line(tokens)?;
@@ -418,14 +420,14 @@ fn last_number<'a>(
 
 /// A goal's constant: nothing, or a sign and a number.
 #[tactic(auto, unfolding(gdp_grammar::specs::Forms::constant_of))]
-fn goal_constant<'a>(tokens: &mut Tokens<'a>) -> Result<Option<Signed<'a>>, LineError>
-    ensures { Gives (λ constant. option_map signed constant) result (constant_of tokens.old) }
+fn goal_constant<'a>(tokens: &mut Tokens<'a>) -> Result<Option<Signed<'a>>, ReadCause>
+    ensures { constant_of tokens.old ≡ result_map (λ constant. option_map signed constant) result }
 {
     match tokens.next() {
         None => Ok(None),
         Some(Token::Mark(Symbol::Plus)) => last_number(tokens, false),
         Some(Token::Mark(Symbol::Minus)) => last_number(tokens, true),
-        _ => Err(LineError::Refused(ReadCause::Form)),
+        _ => Err(ReadCause::Form),
     }
 }
 
@@ -435,8 +437,8 @@ fn number_goal<'a>(
     alloc: Global,
     tokens: &mut Tokens<'a>,
     sense: Sense,
-) -> Result<Form<'a>, LineError>
-    ensures { Gives form result (number_goal_of sense tokens.old) }
+) -> Result<Form<'a>, ReadCause>
+    ensures { number_goal_of sense tokens.old ≡ result_map form result }
 {
     let constant = signed_number(tokens)?;
     Ok(Form::Goal(sense, Vec::new(alloc), Some(constant)))
@@ -474,15 +476,15 @@ fn goal_line<'a>(
     ensures { Gives form result (goal_of sense tokens.old) }
 {
     if is_signed_alone(tokens) {
-        return number_goal(alloc, tokens, sense);
+        return Ok(number_goal(alloc, tokens, sense)?);
     }
     terms_goal(alloc, tokens, sense)
 }
 
 /// The line that opens a disjunction, after its first word.
 #[tactic(auto, unfolding(gdp_grammar::specs::Forms::disjunction_of))]
-fn disjunction_line<'a>(tokens: &mut Tokens<'a>) -> Result<Form<'a>, LineError>
-    ensures { Gives form result (disjunction_of tokens.old) }
+fn disjunction_line<'a>(tokens: &mut Tokens<'a>) -> Result<Form<'a>, ReadCause>
+    ensures { disjunction_of tokens.old ≡ result_map form result }
 {
     let mode = mode_word(tokens)?;
     end_of_line(tokens)?;
@@ -491,8 +493,8 @@ fn disjunction_line<'a>(tokens: &mut Tokens<'a>) -> Result<Form<'a>, LineError>
 
 /// The line that opens a disjunct, after its first word.
 #[tactic(auto, unfolding(gdp_grammar::specs::Forms::disjunct_of))]
-fn disjunct_line<'a>(tokens: &mut Tokens<'a>) -> Result<Form<'a>, LineError>
-    ensures { Gives form result (disjunct_of tokens.old) }
+fn disjunct_line<'a>(tokens: &mut Tokens<'a>) -> Result<Form<'a>, ReadCause>
+    ensures { disjunct_of tokens.old ≡ result_map form result }
 {
     let name = name_word(tokens)?;
     end_of_line(tokens)?;
@@ -501,8 +503,8 @@ fn disjunct_line<'a>(tokens: &mut Tokens<'a>) -> Result<Form<'a>, LineError>
 
 /// The line that closes a block or a disjunction, after its first word.
 #[tactic(auto, unfolding(gdp_grammar::specs::Forms::end_of))]
-fn end_line<'a>(tokens: &mut Tokens<'a>) -> Result<Form<'a>, LineError>
-    ensures { Gives form result (end_of tokens.old) }
+fn end_line<'a>(tokens: &mut Tokens<'a>) -> Result<Form<'a>, ReadCause>
+    ensures { end_of tokens.old ≡ result_map form result }
 {
     end_of_line(tokens)?;
     Ok(Form::End)
@@ -515,32 +517,16 @@ pub fn read_form<'a>(alloc: Global, tokens: &mut Tokens<'a>) -> Result<Form<'a>,
     let Some(Token::Word(word)) = tokens.next() else {
         return Err(LineError::Refused(ReadCause::Form));
     };
-    if word == "var" {
-        return var_line(tokens);
+    match word {
+        "var" => Ok(var_line(tokens)?),
+        "boolean" => Ok(boolean_line(tokens)?),
+        "min" => goal_line(alloc, tokens, Sense::Min),
+        "max" => goal_line(alloc, tokens, Sense::Max),
+        "row" => row_line(alloc, tokens),
+        "logic" => Ok(Form::Logic(tokens.ahead())),
+        "disjunction" => Ok(disjunction_line(tokens)?),
+        "disjunct" => Ok(disjunct_line(tokens)?),
+        "end" => Ok(end_line(tokens)?),
+        _ => Err(LineError::Refused(ReadCause::Form)),
     }
-    if word == "boolean" {
-        return boolean_line(tokens);
-    }
-    if word == "min" {
-        return goal_line(alloc, tokens, Sense::Min);
-    }
-    if word == "max" {
-        return goal_line(alloc, tokens, Sense::Max);
-    }
-    if word == "row" {
-        return row_line(alloc, tokens);
-    }
-    if word == "logic" {
-        return Ok(Form::Logic(tokens.ahead()));
-    }
-    if word == "disjunction" {
-        return disjunction_line(tokens);
-    }
-    if word == "disjunct" {
-        return disjunct_line(tokens);
-    }
-    if word == "end" {
-        return end_line(tokens);
-    }
-    Err(LineError::Refused(ReadCause::Form))
 }

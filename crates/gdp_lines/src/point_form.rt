@@ -6,11 +6,10 @@ ghost use Rattle.model_tree.specs.Names.{has_name_shape as shaped};
 ghost use Rattle.gdp_grammar.specs.Classes.{belongs as belongs_of};
 ghost use Rattle.gdp_grammar.specs.PointForms.{is_digits as is_digits_of, is_name_word as is_name_word_of, digits_of, signed_digits as signed_digits_of, integer_of, name_in, over_of, val_of, on_of, form_of_two, point_form_of};
 ghost use Rattle.text_grammar.specs.Words.{words_of};
-ghost use Rattle.gdp_lines.specs.Gives.{Gives};
+ghost use Rattle.text_grammar.specs.Outcomes.{result_map};
 ghost use Rattle.gdp_lines.specs.PointLines.{integer, point_form};
 
 use crate::class::belongs;
-use crate::fault::LineError;
 use crate::form::is_reserved;
 use crate::word::next_word;
 use gdp_grammar::{Class, ReadCause};
@@ -46,18 +45,18 @@ fn is_digits(word: &[u8]) -> bool
 }
 
 /// Digits.
-fn digits(word: &[u8]) -> Result<&[u8], LineError>
-    ensures { Gives (λ read. read.now) result (digits_of word.now) }
+fn digits(word: &[u8]) -> Result<&[u8], ReadCause>
+    ensures { digits_of word.now ≡ result_map (λ read. read.now) result }
 {
     if !is_digits(word) {
-        return Err(LineError::Refused(ReadCause::Form));
+        return Err(ReadCause::Form);
     }
     Ok(word)
 }
 
 /// Digits behind this sign.
-fn signed_digits(is_negative: bool, word: &[u8]) -> Result<Integer<'_>, LineError>
-    ensures { Gives integer result (signed_digits_of is_negative word.now) }
+fn signed_digits(is_negative: bool, word: &[u8]) -> Result<Integer<'_>, ReadCause>
+    ensures { signed_digits_of is_negative word.now ≡ result_map integer result }
 {
     let digits = digits(word)?;
     Ok(Integer {
@@ -67,11 +66,11 @@ fn signed_digits(is_negative: bool, word: &[u8]) -> Result<Integer<'_>, LineErro
 }
 
 /// Digits with an optional `-` directly before them.
-fn signed_integer(word: &[u8]) -> Result<Integer<'_>, LineError>
-    ensures { Gives integer result (integer_of word.now) }
+fn signed_integer(word: &[u8]) -> Result<Integer<'_>, ReadCause>
+    ensures { integer_of word.now ≡ result_map integer result }
 {
     match word {
-        [] => Err(LineError::Refused(ReadCause::Form)),
+        [] => Err(ReadCause::Form),
         [b'-', digits @ ..] => signed_digits(true, digits),
         _ => signed_digits(false, word),
     }
@@ -102,22 +101,22 @@ fn is_name_word(word: &str) -> bool
 }
 
 /// A name.
-fn name(word: &[u8]) -> Result<&str, LineError>
-    ensures { Gives (λ name. name.now) result (name_in word.now) }
+fn name(word: &[u8]) -> Result<&str, ReadCause>
+    ensures { name_in word.now ≡ result_map (λ name. name.now) result }
 {
     let Ok(name) = str::from_utf8(word) else {
-        return Err(LineError::Refused(ReadCause::Form));
+        return Err(ReadCause::Form);
     };
     if !is_name_word(name) {
-        return Err(LineError::Refused(ReadCause::Form));
+        return Err(ReadCause::Form);
     }
     Ok(name)
 }
 
 /// `over D`.
 #[tactic(auto, unfolding(gdp_grammar::specs::PointForms::over_of))]
-fn over_line(number: &[u8]) -> Result<PointForm<'_>, LineError>
-    ensures { Gives point_form result (over_of number.now) }
+fn over_line(number: &[u8]) -> Result<PointForm<'_>, ReadCause>
+    ensures { over_of number.now ≡ result_map point_form result }
 {
     let digits = digits(number)?;
     Ok(PointForm::Over(digits))
@@ -125,8 +124,8 @@ fn over_line(number: &[u8]) -> Result<PointForm<'_>, LineError>
 
 /// `val NAME N`.
 #[tactic(auto, unfolding(gdp_grammar::specs::PointForms::val_of))]
-fn val_line<'a>(word: &'a [u8], number: &'a [u8]) -> Result<PointForm<'a>, LineError>
-    ensures { Gives point_form result (val_of word.now number.now) }
+fn val_line<'a>(word: &'a [u8], number: &'a [u8]) -> Result<PointForm<'a>, ReadCause>
+    ensures { val_of word.now number.now ≡ result_map point_form result }
 {
     let name = name(word)?;
     let number = signed_integer(number)?;
@@ -135,16 +134,16 @@ fn val_line<'a>(word: &'a [u8], number: &'a [u8]) -> Result<PointForm<'a>, LineE
 
 /// `on NAME`.
 #[tactic(auto, unfolding(gdp_grammar::specs::PointForms::on_of))]
-fn on_line(word: &[u8]) -> Result<PointForm<'_>, LineError>
-    ensures { Gives point_form result (on_of word.now) }
+fn on_line(word: &[u8]) -> Result<PointForm<'_>, ReadCause>
+    ensures { on_of word.now ≡ result_map point_form result }
 {
     let name = name(word)?;
     Ok(PointForm::On(name))
 }
 
 /// A line of two words.
-fn line_of_two<'a>(first: &'a [u8], second: &'a [u8]) -> Result<PointForm<'a>, LineError>
-    ensures { Gives point_form result (form_of_two first.now second.now) }
+fn line_of_two<'a>(first: &'a [u8], second: &'a [u8]) -> Result<PointForm<'a>, ReadCause>
+    ensures { form_of_two first.now second.now ≡ result_map point_form result }
 {
     if first == b"over".as_slice() {
         return over_line(second);
@@ -152,27 +151,27 @@ fn line_of_two<'a>(first: &'a [u8], second: &'a [u8]) -> Result<PointForm<'a>, L
     if first == b"on".as_slice() {
         return on_line(second);
     }
-    Err(LineError::Refused(ReadCause::Form))
+    Err(ReadCause::Form)
 }
 
 /// The form of a line.
-pub fn read_point_form(line: &[u8]) -> Result<PointForm<'_>, LineError>
-    ensures { Gives point_form result (point_form_of (words_of line.now)) }
+pub fn read_point_form(line: &[u8]) -> Result<PointForm<'_>, ReadCause>
+    ensures { point_form_of (words_of line.now) ≡ result_map point_form result }
 {
     let Some((first, rest)) = next_word(line) else {
-        return Err(LineError::Refused(ReadCause::Form));
+        return Err(ReadCause::Form);
     };
     let Some((second, rest)) = next_word(rest) else {
         if first == b"end".as_slice() {
             return Ok(PointForm::End);
         }
-        return Err(LineError::Refused(ReadCause::Form));
+        return Err(ReadCause::Form);
     };
     let Some((third, rest)) = next_word(rest) else {
         return line_of_two(first, second);
     };
     if next_word(rest).is_some() || first != b"val".as_slice() {
-        return Err(LineError::Refused(ReadCause::Form));
+        return Err(ReadCause::Form);
     }
     val_line(second, third)
 }

@@ -4,7 +4,7 @@ ghost use Rattle.std.specs.Prelude.{◌≡◌, [], ◌∷◌, drop};
 ghost use Rattle.std.specs.Option.{MatchOption};
 ghost use Rattle.gdp_grammar.specs.Classes.{front, rest};
 ghost use Rattle.gdp_grammar.specs.Tokens.{numeral_of, double_of, token_of, tokens_of};
-ghost use Rattle.gdp_lines.specs.Tokens.{spelled, piece};
+ghost use Rattle.gdp_lines.specs.Tokens.{spelled, piece, tokens_left, is_last as is_last_of};
 
 use crate::class::{belongs, split_front};
 use gdp_grammar::{Class, Symbol};
@@ -96,19 +96,36 @@ fn split_token<'a>(bytes: &'a [u8], first: u8, after: &'a [u8]) -> (Token<'a>, &
     }
 }
 
-/// The tokens of a line that are left to read.
+/// The first token of the bytes, and what follows it.
+fn split_first(bytes: &[u8]) -> (Option<Token<'_>>, &[u8])
+    ensures { tokens_of bytes.now ≡ tokens_left result.0 result.1.now }
+{
+    let bytes = split_front(bytes, Class::Blank).1;
+    match bytes {
+        [] => (None, bytes),
+        [first, after @ ..] => {
+            let (token, rest) = split_token(bytes, *first, after);
+            (Some(token), rest)
+        }
+    }
+}
+
+/// The tokens of a line that are left to read. The first of them is cut already, so however often it is looked at, it is
+/// cut once.
 #[derive(Drop)]
 pub struct Tokens<'a> {
-    bytes: &'a [u8],
+    first: Option<Token<'a>>,
+    after: &'a [u8],
 }
 
 impl<'a> Model for Tokens<'a> {
     ghost use Rattle.std.specs.Prelude.{List};
-    ghost use Rattle.gdp_grammar.specs.Tokens.{Piece, tokens_of};
+    ghost use Rattle.gdp_grammar.specs.Tokens.{Piece};
+    ghost use Rattle.gdp_lines.specs.Tokens.{tokens_left};
 
     ghost Value = { List Piece };
 
-    ghost view = { λ t. tokens_of t.bytes.now };
+    ghost view = { λ t. tokens_left t.first t.after.now };
 }
 
 impl<'a> Tokens<'a> {
@@ -116,35 +133,37 @@ impl<'a> Tokens<'a> {
     pub fn new(line: &'a [u8]) -> Tokens<'a>
         ensures { result ≡ tokens_of line.now }
     {
-        Tokens { bytes: line }
+        let (first, after) = split_first(line);
+        Tokens { first, after }
     }
 
     /// Takes the first of the tokens that are left.
     pub fn next(&mut self) -> Option<Token<'a>>
         ensures { MatchOption result ((self.old ≡ []) × (self.new ≡ [])) (λ t. self.old ≡ piece t ∷ self.new) }
     {
-        let bytes = split_front(self.bytes, Class::Blank).1;
-        match bytes {
-            [] => {
-                self.bytes = bytes;
-                None
-            }
-            [first, after @ ..] => {
-                let (token, rest) = split_token(bytes, *first, after);
-                self.bytes = rest;
-                Some(token)
-            }
+        let first = self.first;
+        if first.is_some() {
+            let (next, after) = split_first(self.after);
+            self.first = next;
+            self.after = after;
         }
+        first
     }
 
     /// The first of the tokens that are left, which it leaves.
     pub fn peek(&self) -> Option<Token<'a>>
         ensures { MatchOption result (self.now ≡ []) (λ t. self.now ≡ piece t ∷ drop 1 self.now) }
     {
-        let bytes = split_front(self.bytes, Class::Blank).1;
-        match bytes {
-            [] => None,
-            [first, after @ ..] => Some(split_token(bytes, *first, after).0),
+        self.first
+    }
+
+    /// Whether no token is left behind the first.
+    pub fn is_last(&self) -> bool
+        ensures { result ≡ is_last_of self.now }
+    {
+        match self.first {
+            None => true,
+            Some(_) => split_front(self.after, Class::Blank).1.is_empty(),
         }
     }
 
@@ -152,7 +171,10 @@ impl<'a> Tokens<'a> {
     pub fn ahead(&self) -> Tokens<'a>
         ensures { result ≡ self.now }
     {
-        Tokens { bytes: self.bytes }
+        Tokens {
+            first: self.first,
+            after: self.after,
+        }
     }
 
     /// The tokens after the first of those that are left, to look ahead.

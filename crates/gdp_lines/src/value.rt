@@ -5,12 +5,10 @@ ghost use Rattle.std.specs.Option.{option_map};
 ghost use Rattle.gdp_grammar.specs.Numerals.{over_part as over_part_of, under_part as under_part_of, signed as signed_by, ratio as ratio_of, value_of};
 ghost use Rattle.text_grammar.specs.Digits.{value_after};
 ghost use Rattle.gdp_grammar.specs.Reading.{signed_whole as whole_of, constant_value as constant_value_of, end_of};
-ghost use Rattle.gdp_lines.specs.Gives.{Gives};
 ghost use Rattle.gdp_lines.specs.Lines.{signed};
 ghost use Rattle.gdp_lines.specs.Ranges.{in_range};
 ghost use Rattle.gdp_lines.specs.Tokens.{spelled};
 
-use crate::fault::LineError;
 use crate::form::Signed;
 use crate::token::Numeral;
 use fractions::Frac;
@@ -111,17 +109,18 @@ fn ratio(is_negative: bool, over: u64, under: u64) -> Option<Frac>
     requires under { under ≤ 10 ^ 15 }
     ensures { result ≡ ratio_of is_negative over under }
 {
-    Frac::new(with_sign(is_negative, over), i128::from(under))
+    if under == 0 {
+        return None;
+    }
+    let over = with_sign(is_negative, over);
+    Some(Frac::reduced(over, i128::from(under)))
 }
 
 /// A whole number as a fraction.
 fn whole(number: i128) -> Frac
     ensures { result ≡ record { num = number; den = pos 1 } }
 {
-    match Frac::new(number, 1) {
-        Some(whole) => whole,
-        None => unreachable!(),
-    }
+    Frac::reduced(number, 1)
 }
 
 /// A whole number with its sign.
@@ -145,14 +144,14 @@ pub fn value(is_negative: bool, number: &Numeral<'_>) -> Option<Frac>
 }
 
 /// An end of a bound.
-pub fn end(number: &Option<Signed<'_>>) -> Result<Option<Frac>, LineError>
-    ensures { Gives (λ x. x) result (end_of (option_map signed number.now)) }
+pub fn end(number: &Option<Signed<'_>>) -> Result<Option<Frac>, ReadCause>
+    ensures { result ≡ end_of (option_map signed number.now) }
 {
     match number {
         None => Ok(None),
         Some(number) => match value(number.is_negative, &number.size) {
             Some(end) => Ok(Some(end)),
-            None => Err(LineError::Refused(ReadCause::Number)),
+            None => Err(ReadCause::Number),
         },
     }
 }

@@ -1,6 +1,6 @@
-pub mod BuildingSteps
-pub mod Ends
-pub mod LogicSteps
-pub mod Marks
-pub mod PointNumbers
-pub mod PointEnds
+pub mod EndsLemmas
+pub mod LogicLemmas
+pub mod MarksLemmas
+pub mod PointEndsLemmas
+pub mod PointNumbersLemmas
+pub mod TermsLemmas

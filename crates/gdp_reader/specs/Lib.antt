@@ -1,4 +1,4 @@
-pub mod Building
 pub mod Denominators
 pub mod PointTaking
 pub mod Taking
+pub mod steps

@@ -17,13 +17,13 @@ point_taken_of t = record { headed = t.is_headed; over = t.over; numbers = t.num
 abbrev pub point_parts : ModelPoint → PointValue × List Bool
 point_parts p = (p.at, p.truths)
 
--- the text was read as this point, or memory was wanted
+-- the text was read as this point, or memory ran out
 abbrev pub IsPointReadAs : PointValue → List Bool → Result ModelPoint ReadError → Type 0
 IsPointReadAs at truths (Ok read) = (read.at ≡ at) × (read.truths ≡ truths)
 IsPointReadAs at truths (Err Memory) = Unit {0}
 IsPointReadAs at truths (Err (At line cause)) = ⊥
 
--- the text was refused at its first bad line, with its cause, or memory was wanted
+-- the text was refused at its first bad line, with its cause, or memory ran out
 abbrev pub IsPointRefused : ModelTree → List ℕ → ReadError → Type 0
 IsPointRefused m text Memory = Unit {0}
 IsPointRefused m text (At line cause) = IsFirstBadOfPoint m text line cause

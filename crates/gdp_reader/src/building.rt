@@ -1,14 +1,10 @@
 //! What a line adds to the model that is being built.
 
-ghost use Rattle.std.specs.Prelude.{◌≡◌, ℕ, List, map, IfOk};
+ghost use Rattle.std.specs.Prelude.{◌≡◌, ◌<◌, length, map, IfOk, IfSome};
 ghost use Rattle.std.specs.Option.{option_map};
 ghost use Rattle.model_builder.specs.Nesting.{boolean_outcome, open_disjunction_outcome, open_disjunct_outcome, close_outcome};
 ghost use Rattle.model_builder.specs.Standing.{stands_for};
 ghost use Rattle.gdp_grammar.specs.Reading.{
-  named,
-  has_twice as has_twice_in,
-  known_terms,
-  valued_terms,
   coefficient as coefficient_in,
   after_call,
   terms_of,
@@ -18,10 +14,10 @@ ghost use Rattle.gdp_grammar.specs.Reading.{
   with_logic,
   with_form,
 };
-ghost use Rattle.gdp_reader.specs.Building.{line_error};
 ghost use Rattle.gdp_lines.specs.Gives.{Gives};
-ghost use Rattle.gdp_lines.specs.Lines.{signed, summand, named_summand, form};
+ghost use Rattle.gdp_lines.specs.Lines.{signed, summand, form};
 ghost use Rattle.gdp_lines.specs.Tokens.{spelled};
+ghost use Rattle.gdp_reader.specs.steps.Terms.{is_marked, with_mark, terms_value, one_term_more};
 
 use fractions::Frac;
 use gdp_grammar::ReadCause;
@@ -31,27 +27,10 @@ use gdp_lines::token::{Numeral, Tokens};
 use gdp_lines::value::{constant_value, end, signed_whole, value};
 use lp_rows::{Kind, Rel, Sense};
 use model_builder::ModelBuilder;
-use model_tree::{Bound, BuildError, Mode};
+use model_tree::{Bound, Mode};
 use outcomes::Memory;
 use prop_reader::logic::line_prop;
 use std::alloc::Global;
-
-/// The cause of a refusal of the builder.
-pub fn refused(refusal: BuildError) -> LineError
-    ensures { result ≡ line_error refusal }
-{
-    match refusal {
-        BuildError::Place => LineError::Refused(ReadCause::Form),
-        BuildError::NameTwice => LineError::Refused(ReadCause::NameTwice),
-        BuildError::NameUnknown => LineError::Refused(ReadCause::NameUnknown),
-        BuildError::Number => LineError::Refused(ReadCause::Number),
-        BuildError::Nesting => LineError::Refused(ReadCause::Nesting),
-        BuildError::Unclosed => LineError::Refused(ReadCause::Unclosed),
-        BuildError::Limit => LineError::Refused(ReadCause::Limit),
-        BuildError::Missing => LineError::Refused(ReadCause::Missing),
-        BuildError::Memory => LineError::Memory,
-    }
-}
 
 /// Declares a variable.
 #[tactic(auto, unfolding(gdp_grammar::specs::Reading::with_var))]
@@ -74,45 +53,8 @@ fn add_var(
     }
     let low = end(low)?;
     let high = end(high)?;
-    match builder.var(alloc, name, kind, Bound { low, high }, line) {
-        Ok(_) => Ok(()),
-        Err(refusal) => Err(refused(refusal)),
-    }
-}
-
-/// Whether one variable stands twice in a sum.
-fn has_twice(alloc: Global, builder: &ModelBuilder, sum: &[Summand<'_>]) -> Result<bool, Memory>
-    ensures { IfOk result (λ twice. twice ≡ has_twice_in (named (stands_for builder.now).vars (map summand sum.now))) }
-{
-    let mut seen = vec![in alloc; false; builder.var_count()]?;
-    'terms: for term in sum {
-        if let Some(id) = builder.var_id(term.name) {
-            let id = id as usize;
-            if seen[id] {
-                return Ok(true);
-            }
-            seen[id] = true;
-        }
-    }
-    Ok(false)
-}
-
-/// The terms of a sum with the numbers of their variables.
-fn known<'a>(
-    alloc: Global,
-    builder: &ModelBuilder,
-    sum: &[Summand<'a>],
-) -> Result<Vec<(u32, Summand<'a>)>, LineError>
-    ensures { Gives (λ terms. map named_summand terms.items) result (known_terms (stands_for builder.now).vars (map summand sum.now)) }
-{
-    let mut terms = Vec::new(alloc);
-    'terms: for term in sum {
-        let Some(id) = builder.var_id(term.name) else {
-            return Err(LineError::Refused(ReadCause::NameUnknown));
-        };
-        terms.push((id, *term))?;
-    }
-    Ok(terms)
+    builder.var(alloc, name, kind, Bound { low, high }, line)?;
+    Ok(())
 }
 
 /// The coefficient of a term, if it is in range.
@@ -125,22 +67,43 @@ fn coefficient(is_negative: bool, size: &Option<Numeral<'_>>) -> Option<Frac>
     }
 }
 
-/// The terms with the values of their coefficients.
-fn valued(alloc: Global, terms: &[(u32, Summand<'_>)]) -> Result<Vec<(u32, Frac)>, LineError>
-    ensures { Gives (λ valued. valued.items) result (valued_terms (map named_summand terms.now)) }
+/// Marks the variable, where there is one, and says whether it was marked before.
+fn mark(seen: &mut [bool], id: Option<u32>) -> bool
+    requires { IfSome id (λ k. k < length seen.old) }
+    ensures before { result ≡ is_marked seen.old id }
+    ensures after { seen.new ≡ with_mark seen.old id }
 {
-    let mut valued = Vec::new(alloc);
-    'terms: for term in terms {
-        let Some(coefficient) = coefficient(term.1.is_negative, &term.1.size) else {
-            return Err(LineError::Refused(ReadCause::Number));
-        };
-        valued.push((term.0, coefficient))?;
-    }
-    Ok(valued)
+    let Some(id) = id else {
+        return false;
+    };
+    let was_marked = seen[id as usize];
+    seen[id as usize] = true;
+    was_marked
 }
 
-/// The terms of a sum: no variable stands twice in it, each name is known, and each number is in range.
-#[tactic(auto, unfolding(gdp_grammar::specs::Reading::terms_of))]
+/// The terms with one more, or the first cause against them: a name that is unknown, and then a number out of range.
+fn with_term(
+    terms: Result<Vec<(u32, Frac)>, ReadCause>,
+    id: Option<u32>,
+    coefficient: Option<Frac>,
+) -> Result<Result<Vec<(u32, Frac)>, ReadCause>, Memory>
+    ensures { IfOk result (λ more. terms_value more ≡ one_term_more (terms_value terms) id coefficient) }
+{
+    let Some(id) = id else {
+        return Ok(Err(ReadCause::NameUnknown));
+    };
+    match (terms, coefficient) {
+        (Ok(mut terms), Some(coefficient)) => {
+            terms.push((id, coefficient))?;
+            Ok(Ok(terms))
+        }
+        (Ok(_), None) => Ok(Err(ReadCause::Number)),
+        (Err(cause), _) => Ok(Err(cause)),
+    }
+}
+
+/// The terms of a sum: no variable stands twice in it, each name is known, and each number is in range. Each name is
+/// looked up once.
 fn read_terms(
     alloc: Global,
     builder: &ModelBuilder,
@@ -148,11 +111,16 @@ fn read_terms(
 ) -> Result<Vec<(u32, Frac)>, LineError>
     ensures { Gives (λ terms. terms.items) result (terms_of (stands_for builder.now).vars (map summand sum.now)) }
 {
-    if has_twice(alloc, builder, sum)? {
-        return Err(LineError::Refused(ReadCause::NameTwice));
+    let mut seen = vec![in alloc; false; builder.var_count()]?;
+    let mut terms = Ok(Vec::with_capacity(alloc, sum.len())?);
+    'terms: for term in sum {
+        let id = builder.var_id(term.name);
+        if mark(seen.as_mut_slice(), id) {
+            return Err(LineError::Refused(ReadCause::NameTwice));
+        }
+        terms = with_term(terms, id, coefficient(term.is_negative, &term.size))?;
     }
-    let known = known(alloc, builder, sum)?;
-    valued(alloc, known.as_slice())
+    Ok(terms?)
 }
 
 /// Adds a row.
@@ -174,10 +142,8 @@ fn add_row(
     let Some(right) = value(right.is_negative, &right.size) else {
         return Err(LineError::Refused(ReadCause::Number));
     };
-    match builder.row(alloc, terms.as_slice(), rel, right, line) {
-        Ok(()) => Ok(()),
-        Err(refusal) => Err(refused(refusal)),
-    }
+    builder.row(alloc, terms.as_slice(), rel, right, line)?;
+    Ok(())
 }
 
 /// Sets the goal.
@@ -199,10 +165,8 @@ fn add_goal(
     let Some(constant) = constant_value(constant) else {
         return Err(LineError::Refused(ReadCause::Number));
     };
-    match builder.goal(alloc, sense, terms.as_slice(), constant, line) {
-        Ok(()) => Ok(()),
-        Err(refusal) => Err(refused(refusal)),
-    }
+    builder.goal(alloc, sense, terms.as_slice(), constant, line)?;
+    Ok(())
 }
 
 /// Adds a proposition.
@@ -217,14 +181,9 @@ fn add_logic(
     if builder.is_in_disjunction() {
         return Err(LineError::Refused(ReadCause::Form));
     }
-    let prop = match line_prop(alloc, builder, tokens) {
-        Ok(prop) => prop,
-        Err(error) => return Err(error),
-    };
-    match builder.prop(alloc, &prop, line) {
-        Ok(()) => Ok(()),
-        Err(refusal) => Err(refused(refusal)),
-    }
+    let prop = line_prop(alloc, builder, tokens)?;
+    builder.prop(alloc, &prop, line)?;
+    Ok(())
 }
 
 /// Adds a Boolean.
@@ -236,10 +195,8 @@ fn add_boolean(
 ) -> Result<(), LineError>
     ensures { Gives (λ _. stands_for builder.new) result (after_call (boolean_outcome name.now line (stands_for builder.old))) }
 {
-    match builder.boolean(alloc, name, line) {
-        Ok(_) => Ok(()),
-        Err(refusal) => Err(refused(refusal)),
-    }
+    builder.boolean(alloc, name, line)?;
+    Ok(())
 }
 
 /// Opens a disjunction.
@@ -251,10 +208,8 @@ fn open_disjunction(
 ) -> Result<(), LineError>
     ensures { Gives (λ _. stands_for builder.new) result (after_call (open_disjunction_outcome mode line (stands_for builder.old))) }
 {
-    match builder.open_disjunction(alloc, mode, line) {
-        Ok(()) => Ok(()),
-        Err(refusal) => Err(refused(refusal)),
-    }
+    builder.open_disjunction(alloc, mode, line)?;
+    Ok(())
 }
 
 /// Opens a disjunct.
@@ -266,20 +221,16 @@ fn open_disjunct(
 ) -> Result<(), LineError>
     ensures { Gives (λ _. stands_for builder.new) result (after_call (open_disjunct_outcome name.now line (stands_for builder.old))) }
 {
-    match builder.open_disjunct(alloc, name, line) {
-        Ok(_) => Ok(()),
-        Err(refusal) => Err(refused(refusal)),
-    }
+    builder.open_disjunct(alloc, name, line)?;
+    Ok(())
 }
 
 /// Closes the innermost that is open.
 fn close(alloc: Global, builder: &mut ModelBuilder) -> Result<(), LineError>
     ensures { Gives (λ _. stands_for builder.new) result (after_call (close_outcome (stands_for builder.old))) }
 {
-    match builder.close(alloc) {
-        Ok(()) => Ok(()),
-        Err(refusal) => Err(refused(refusal)),
-    }
+    builder.close(alloc)?;
+    Ok(())
 }
 
 /// Adds what a line of this form says.

@@ -5,13 +5,13 @@ ghost use Rattle.model_tree.specs.Values.{ModelTree, model_tree};
 ghost use Rattle.text_grammar.specs.Grammars.{at_line, follow_by, given_by};
 ghost use Rattle.text_grammar.specs.Lines.{lines_of};
 ghost use Rattle.gdp_grammar.specs.Reading.{nothing_taken, with_header, with_tokens, with_content, with_line, model_after};
-ghost use Rattle.gdp_grammar.specs.Spelling.{Spells};
+ghost use Rattle.gdp_grammar.specs.Spelling.{model_grammar, Spells};
 ghost use Rattle.gdp_grammar.specs.Tokens.{tokens_of};
 ghost use Rattle.text_grammar.specs.Words.{words_of};
 ghost use Rattle.gdp_lines.specs.Gives.{Gives};
 ghost use Rattle.gdp_reader.specs.Taking.{taken_of, GivesText, IsReadAs, IsRefused};
 
-use crate::building::{add, refused};
+use crate::building::add;
 use crate::error::ReadError;
 use gdp_grammar::ReadCause;
 use gdp_lines::fault::LineError;
@@ -89,7 +89,7 @@ impl Taking {
 /// What the lines of a text give, and how many there are.
 fn take_lines(alloc: Global, text: &[u8]) -> Result<(Taking, u32), ReadError>
     requires { length text.now < 2 ^ 32 - 1 }
-    ensures taken { GivesText (λ x. taken_of x.0) result (follow_by 1 nothing_taken (lines_of text.now)) }
+    ensures taken { GivesText (λ x. taken_of x.0) result (follow_by model_grammar 1 nothing_taken (lines_of text.now)) }
     ensures counted { IfOk result (λ x. x.1 ≡ length (lines_of text.now)) }
     ensures few { IfOk result (λ x. x.1 ≤ length text.now) }
 {
@@ -99,10 +99,8 @@ fn take_lines(alloc: Global, text: &[u8]) -> Result<(Taking, u32), ReadError>
     'lines: while !rest.is_empty() {
         let (first, after) = first_line(rest);
         lines += 1;
-        match taking.take(alloc, lines, first) {
-            Ok(()) => {}
-            Err(LineError::Refused(cause)) => return Err(ReadError::At { line: lines, cause }),
-            Err(LineError::Memory) => return Err(ReadError::Memory),
+        if let Err(error) = taking.take(alloc, lines, first) {
+            return Err(ReadError::at(lines, error));
         }
         rest = after;
     }
@@ -123,22 +121,17 @@ fn finish(alloc: Global, taking: Taking, line: u32) -> Result<Model, ReadError>
     let Taking { builder, .. } = taking;
     match builder.finish(alloc) {
         Ok(model) => Ok(model),
-        Err((_, refusal)) => match refused(refusal) {
-            LineError::Refused(cause) => Err(ReadError::At { line, cause }),
-            LineError::Memory => Err(ReadError::Memory),
-        },
+        Err((_, refusal)) => Err(ReadError::at(line, LineError::from(refusal))),
     }
 }
 
 /// The model that the lines of a text give, or its first bad line.
 fn read_text(alloc: Global, text: &[u8]) -> Result<Model, ReadError>
     requires { length text.now < 2 ^ 32 - 1 }
-    ensures { GivesText model_tree result (given_by text.now) }
+    ensures { GivesText model_tree result (given_by model_grammar (lines_of text.now)) }
 {
-    match take_lines(alloc, text) {
-        Ok((taking, lines)) => finish(alloc, taking, lines + 1),
-        Err(error) => Err(error),
-    }
+    let (taking, lines) = take_lines(alloc, text)?;
+    finish(alloc, taking, lines + 1)
 }
 
 /// The model that a text spells, or its first bad line with its cause.
@@ -146,7 +139,7 @@ pub fn read_model(alloc: Global, text: &[u8]) -> Result<Model, ReadError>
     requires { length text.now < 2 ^ 32 - 1 }
     // What is read is spelled.
     ensures found { IfOk result (λ model. Spells text.now (model_tree model)) }
-    // What is spelled is read, and nothing else, unless memory was wanted.
+    // What is spelled is read, and nothing else, unless memory ran out.
     ensures only { (m : ModelTree) → Spells text.now m → IsReadAs m result }
     // What is refused is the first bad line, with its cause.
     ensures refused { IfErr result (λ error. IsRefused text.now error) }

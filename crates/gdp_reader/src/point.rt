@@ -15,7 +15,6 @@ ghost use Rattle.gdp_reader.specs.Taking.{GivesText};
 use crate::error::ReadError;
 use crate::point_taking::PointTaking;
 use gdp_grammar::ReadCause;
-use gdp_lines::fault::LineError;
 use gdp_lines::line::first_line;
 use lp_rows::{Flags, Point, PointError};
 use model_tree::{Model, ModelPoint};
@@ -42,10 +41,8 @@ fn take_lines<'a>(
     'lines: while !rest.is_empty() {
         let (first, after) = first_line(rest);
         lines += 1;
-        match taking.take(first) {
-            Ok(()) => {}
-            Err(LineError::Refused(cause)) => return Err(ReadError::At { line: lines, cause }),
-            Err(LineError::Memory) => return Err(ReadError::Memory),
+        if let Err(cause) = taking.take(first) {
+            return Err(ReadError::At { line: lines, cause });
         }
         rest = after;
     }
@@ -62,9 +59,7 @@ fn all_numbers(alloc: Global, numbers: &[Option<i128>]) -> Result<Option<Vec<i12
         let Some(number) = number else {
             return Ok(None);
         };
-        if all.push(*number).is_err() {
-            return Err(Memory);
-        }
+        all.push(*number)?;
     }
     Ok(Some(all))
 }
@@ -122,14 +117,12 @@ fn finish(alloc: Global, taking: PointTaking<'_>, line: u32) -> Result<ModelPoin
 /// The point that the lines of a text give, or its first bad line.
 fn read_point_text(alloc: Global, model: &Model, text: &[u8]) -> Result<ModelPoint, ReadError>
     requires { length text.now < 2 ^ 32 - 1 }
-    ensures given { GivesText point_parts result (given_by (point_grammar (model_tree model.now)) text.now) }
+    ensures given { GivesText point_parts result (given_by (point_grammar (model_tree model.now)) (lines_of text.now)) }
     ensures numbers { IfOk result (λ point. length point.at.nums ≡ length model.now.vars) }
     ensures truths { IfOk result (λ point. length point.truths ≡ length model.now.booleans) }
 {
-    match take_lines(alloc, model, text) {
-        Ok((taking, lines)) => finish(alloc, taking, lines + 1),
-        Err(error) => Err(error),
-    }
+    let (taking, lines) = take_lines(alloc, model, text)?;
+    finish(alloc, taking, lines + 1)
 }
 
 /// The point of the model that a text spells, or its first bad line with its cause.
@@ -140,7 +133,7 @@ pub fn read_point(alloc: Global, model: &Model, text: &[u8]) -> Result<ModelPoin
     // The point has a number for each variable and a truth value for each Boolean.
     ensures numbers { IfOk result (λ point. length point.at.nums ≡ length model.now.vars) }
     ensures truths { IfOk result (λ point. length point.truths ≡ length model.now.booleans) }
-    // What is spelled is read, and nothing else, unless memory was wanted.
+    // What is spelled is read, and nothing else, unless memory ran out.
     ensures only { (at : PointValue) (truths : List Bool) → SpellsPoint (model_tree model.now) text.now at truths → IsPointReadAs at truths result }
     // What is refused is the first bad line, with its cause.
     ensures refused { IfErr result (λ error. IsPointRefused (model_tree model.now) text.now error) }

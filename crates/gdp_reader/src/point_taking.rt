@@ -1,6 +1,6 @@
 //! What the lines of a point text give.
 
-ghost use Rattle.std.specs.Prelude.{◌≡◌, length, true, is_some, IfOk};
+ghost use Rattle.std.specs.Prelude.{◌≡◌, length, true, is_some, IfOk, OnErr};
 ghost use Rattle.std.specs.List.{list_all};
 ghost use Rattle.model_tree.specs.Values.{model_tree};
 ghost use Rattle.gdp_grammar.specs.PointReading.{
@@ -20,11 +20,10 @@ ghost use Rattle.gdp_grammar.specs.PointReading.{
 };
 ghost use Rattle.text_grammar.specs.Words.{words_of};
 ghost use Rattle.gdp_reader.specs.Denominators.{is_denominator};
-ghost use Rattle.gdp_lines.specs.Gives.{Gives};
+ghost use Rattle.text_grammar.specs.Outcomes.{result_map};
 ghost use Rattle.gdp_lines.specs.PointLines.{integer, point_form};
 
 use gdp_grammar::ReadCause;
-use gdp_lines::fault::LineError;
 use gdp_lines::integer::{integer_value, over_value};
 use gdp_lines::line::without_comment;
 use gdp_lines::point_form::{Integer, PointForm, read_point_form};
@@ -100,15 +99,15 @@ impl<'a> PointTaking<'a> {
 
     /// The denominator.
     #[tactic(auto, unfolding(gdp_grammar::specs::PointReading::with_over))]
-    fn take_over(&mut self, digits: &[u8]) -> Result<(), LineError>
-        ensures taken { Gives (λ _. point_taken_of self.new) result (with_over (point_taken_of self.old) digits.now) }
+    fn take_over(&mut self, digits: &[u8]) -> Result<(), ReadCause>
+        ensures taken { with_over (point_taken_of self.old) digits.now ≡ result_map (λ _. point_taken_of self.new) result }
         ensures model { self.new.model.now ≡ self.old.model.now }
     {
         if self.over.is_some() {
-            return Err(LineError::Refused(ReadCause::Form));
+            return Err(ReadCause::Form);
         }
         let Some(over) = over_value(digits) else {
-            return Err(LineError::Refused(ReadCause::Number));
+            return Err(ReadCause::Number);
         };
         self.over = Some(over);
         Ok(())
@@ -123,21 +122,22 @@ impl<'a> PointTaking<'a> {
 
     /// The number of a variable.
     #[tactic(auto, unfolding(gdp_grammar::specs::PointReading::with_val))]
-    fn take_val(&mut self, name: &str, number: &Integer<'_>) -> Result<(), LineError>
-        ensures taken { Gives (λ _. point_taken_of self.new) result (with_val (model_tree self.old.model.now) (point_taken_of self.old) name.now (integer number.now)) }
+    fn take_val(&mut self, name: &str, number: &Integer<'_>) -> Result<(), ReadCause>
+        ensures taken { with_val (model_tree self.old.model.now) (point_taken_of self.old) name.now (integer number.now) ≡ result_map (λ _. point_taken_of self.new) result }
+        ensures refused { OnErr result (point_taken_of self.new ≡ point_taken_of self.old) }
         ensures model { self.new.model.now ≡ self.old.model.now }
     {
         if !self.takes_names() {
-            return Err(LineError::Refused(ReadCause::Form));
+            return Err(ReadCause::Form);
         }
         if self.has_line(name) {
-            return Err(LineError::Refused(ReadCause::NameTwice));
+            return Err(ReadCause::NameTwice);
         }
         let Some(id) = self.model.find_var(name) else {
-            return Err(LineError::Refused(ReadCause::NameUnknown));
+            return Err(ReadCause::NameUnknown);
         };
         let Some(value) = integer_value(number) else {
-            return Err(LineError::Refused(ReadCause::Number));
+            return Err(ReadCause::Number);
         };
         self.numbers[id] = Some(value);
         Ok(())
@@ -145,18 +145,19 @@ impl<'a> PointTaking<'a> {
 
     /// A Boolean that is true.
     #[tactic(auto, unfolding(gdp_grammar::specs::PointReading::with_on))]
-    fn take_on(&mut self, name: &str) -> Result<(), LineError>
-        ensures taken { Gives (λ _. point_taken_of self.new) result (with_on (model_tree self.old.model.now) (point_taken_of self.old) name.now) }
+    fn take_on(&mut self, name: &str) -> Result<(), ReadCause>
+        ensures taken { with_on (model_tree self.old.model.now) (point_taken_of self.old) name.now ≡ result_map (λ _. point_taken_of self.new) result }
+        ensures refused { OnErr result (point_taken_of self.new ≡ point_taken_of self.old) }
         ensures model { self.new.model.now ≡ self.old.model.now }
     {
         if !self.takes_names() {
-            return Err(LineError::Refused(ReadCause::Form));
+            return Err(ReadCause::Form);
         }
         if self.has_line(name) {
-            return Err(LineError::Refused(ReadCause::NameTwice));
+            return Err(ReadCause::NameTwice);
         }
         let Some(id) = self.model.find_boolean(name) else {
-            return Err(LineError::Refused(ReadCause::NameUnknown));
+            return Err(ReadCause::NameUnknown);
         };
         self.truths[id] = true;
         Ok(())
@@ -171,23 +172,23 @@ impl<'a> PointTaking<'a> {
 
     /// The end of the point.
     #[tactic(auto, unfolding(gdp_grammar::specs::PointReading::with_end))]
-    fn take_end(&mut self) -> Result<(), LineError>
-        ensures taken { Gives (λ _. point_taken_of self.new) result (with_end (point_taken_of self.old)) }
+    fn take_end(&mut self) -> Result<(), ReadCause>
+        ensures taken { with_end (point_taken_of self.old) ≡ result_map (λ _. point_taken_of self.new) result }
         ensures model { self.new.model.now ≡ self.old.model.now }
     {
         if !self.takes_names() {
-            return Err(LineError::Refused(ReadCause::Form));
+            return Err(ReadCause::Form);
         }
         if !self.has_all() {
-            return Err(LineError::Refused(ReadCause::Missing));
+            return Err(ReadCause::Missing);
         }
         self.is_ended = true;
         Ok(())
     }
 
     /// Takes a line of this form.
-    fn take_form(&mut self, form: &PointForm<'_>) -> Result<(), LineError>
-        ensures taken { Gives (λ _. point_taken_of self.new) result (with_point_form (model_tree self.old.model.now) (point_taken_of self.old) (point_form form.now)) }
+    fn take_form(&mut self, form: &PointForm<'_>) -> Result<(), ReadCause>
+        ensures taken { with_point_form (model_tree self.old.model.now) (point_taken_of self.old) (point_form form.now) ≡ result_map (λ _. point_taken_of self.new) result }
         ensures model { self.new.model.now ≡ self.old.model.now }
     {
         match form {
@@ -199,23 +200,23 @@ impl<'a> PointTaking<'a> {
     }
 
     /// The header is the first line that isn't blank.
-    fn take_header(&mut self, line: &[u8]) -> Result<(), LineError>
-        ensures taken { Gives (λ _. point_taken_of self.new) result (with_point_header (point_taken_of self.old) (words_of line.now)) }
+    fn take_header(&mut self, line: &[u8]) -> Result<(), ReadCause>
+        ensures taken { with_point_header (point_taken_of self.old) (words_of line.now) ≡ result_map (λ _. point_taken_of self.new) result }
         ensures model { self.new.model.now ≡ self.old.model.now }
     {
         if is_blank(line) {
             return Ok(());
         }
         if !are_words(line, b"gdp-point", b"1") {
-            return Err(LineError::Refused(ReadCause::Header));
+            return Err(ReadCause::Header);
         }
         self.is_headed = true;
         Ok(())
     }
 
     /// A line after the header adds what its form says, and a blank one nothing.
-    fn take_words(&mut self, line: &[u8]) -> Result<(), LineError>
-        ensures taken { Gives (λ _. point_taken_of self.new) result (with_point_words (model_tree self.old.model.now) (point_taken_of self.old) (words_of line.now)) }
+    fn take_words(&mut self, line: &[u8]) -> Result<(), ReadCause>
+        ensures taken { with_point_words (model_tree self.old.model.now) (point_taken_of self.old) (words_of line.now) ≡ result_map (λ _. point_taken_of self.new) result }
         ensures model { self.new.model.now ≡ self.old.model.now }
     {
         if is_blank(line) {
@@ -227,8 +228,8 @@ impl<'a> PointTaking<'a> {
 
     /// Takes a line.
     #[tactic(auto, unfolding(gdp_grammar::specs::PointReading::with_point_line))]
-    pub fn take(&mut self, bytes: &[u8]) -> Result<(), LineError>
-        ensures taken { Gives (λ _. point_taken_of self.new) result (with_point_line (model_tree self.old.model.now) (point_taken_of self.old) bytes.now) }
+    pub fn take(&mut self, bytes: &[u8]) -> Result<(), ReadCause>
+        ensures taken { with_point_line (model_tree self.old.model.now) (point_taken_of self.old) bytes.now ≡ result_map (λ _. point_taken_of self.new) result }
         ensures model { self.new.model.now ≡ self.old.model.now }
     {
         let content = without_comment(bytes);

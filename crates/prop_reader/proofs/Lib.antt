@@ -1,8 +1,8 @@
-pub mod PropSteps
-pub mod PropJoints
-pub mod PropSizing
-pub mod PropTurns
-pub mod PropNumbers
-pub mod PropTrees
-pub mod PropRefusals
-pub mod PropLines
+pub mod HeadsLemmas
+pub mod JointsLemmas
+pub mod TurnsLemmas
+pub mod NumbersLemmas
+pub mod SizesLemmas
+pub mod SizeCausesLemmas
+pub mod ReadingsLemmas
+pub mod LogicLinesLemmas

@@ -1,6 +1,3 @@
-pub mod Heads
 pub mod LogicLines
-pub mod Operators
 pub mod SizeCauses
-pub mod Sizes
-pub mod Trees
+pub mod steps

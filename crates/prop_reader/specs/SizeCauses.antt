@@ -6,7 +6,7 @@ use Rattle.gdp_grammar.specs.declared.cause.ReadCause.{ReadCause}
 use Rattle.gdp_grammar.specs.declared.cause.ReadCause.TheVariants.{NameUnknown, Number, Nesting, Limit}
 use Rattle.gdp_grammar.specs.PropNames.{are_known}
 use Rattle.gdp_grammar.specs.PropTexts.{NamedProp}
-use Rattle.prop_reader.specs.declared.measure.Size.{Size}
+use Rattle.prop_reader.specs.declared.size.Size.{Size}
 use Rattle.gdp_grammar.specs.PropSizes.{named_greatest, named_depth, named_nodes, named_most}
 
 -- the cause against a name, a number, the depth, the nodes or the arguments, in this order

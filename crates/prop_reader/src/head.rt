@@ -1,8 +1,8 @@
 //! What comes next of a proposition, read from left to right.
 
 ghost use Rattle.std.specs.Prelude.{◌≡◌};
-ghost use Rattle.gdp_lines.specs.Gives.{Gives};
-ghost use Rattle.prop_reader.specs.Heads.{
+ghost use Rattle.text_grammar.specs.Outcomes.{result_map};
+ghost use Rattle.prop_reader.specs.steps.Heads.{
   past_open,
   past_comma,
   digits_of,
@@ -11,14 +11,12 @@ ghost use Rattle.prop_reader.specs.Heads.{
   head_value,
   joint_of,
 };
-ghost use Rattle.prop_reader.specs.Operators.{operator_table, operator_value, word_value};
+ghost use Rattle.prop_reader.specs.steps.Operators.{operator_value, word_value};
 
-use crate::operator::{Operator, OperatorWord, WORD_COUNT, operator_word};
+use crate::operator::{Operator, OperatorWord, operator_word};
 use gdp_grammar::{ReadCause, Symbol};
-use gdp_lines::fault::LineError;
 use gdp_lines::form::is_reserved;
 use gdp_lines::token::{Numeral, Token, Tokens};
-use gdp_tables::Words;
 
 /// What a proposition begins with: its name, or its operator with all that stands before the first argument.
 #[derive(Clone, Copy)]
@@ -36,32 +34,32 @@ pub enum Joint {
 }
 
 /// The opening parenthesis.
-fn take_open(tokens: &mut Tokens<'_>) -> Result<(), LineError>
-    ensures { Gives (λ _. tokens.new) result (past_open tokens.old) }
+fn take_open(tokens: &mut Tokens<'_>) -> Result<(), ReadCause>
+    ensures { past_open tokens.old ≡ result_map (λ _. tokens.new) result }
 {
     match tokens.next() {
         Some(Token::Mark(Symbol::Open)) => Ok(()),
-        _ => Err(LineError::Refused(ReadCause::Form)),
+        _ => Err(ReadCause::Form),
     }
 }
 
 /// A comma.
-fn take_comma(tokens: &mut Tokens<'_>) -> Result<(), LineError>
-    ensures { Gives (λ _. tokens.new) result (past_comma tokens.old) }
+fn take_comma(tokens: &mut Tokens<'_>) -> Result<(), ReadCause>
+    ensures { past_comma tokens.old ≡ result_map (λ _. tokens.new) result }
 {
     match tokens.next() {
         Some(Token::Mark(Symbol::Comma)) => Ok(()),
-        _ => Err(LineError::Refused(ReadCause::Form)),
+        _ => Err(ReadCause::Form),
     }
 }
 
 /// The digits of a whole number.
-fn take_digits<'a>(tokens: &mut Tokens<'a>) -> Result<&'a [u8], LineError>
-    ensures { Gives (λ digits. (digits.now, tokens.new)) result (digits_of tokens.old) }
+fn take_digits<'a>(tokens: &mut Tokens<'a>) -> Result<&'a [u8], ReadCause>
+    ensures { digits_of tokens.old ≡ result_map (λ digits. (digits.now, tokens.new)) result }
 {
     match tokens.next() {
         Some(Token::Number(Numeral::Whole(digits))) => Ok(digits),
-        _ => Err(LineError::Refused(ReadCause::Form)),
+        _ => Err(ReadCause::Form),
     }
 }
 
@@ -69,8 +67,8 @@ fn take_digits<'a>(tokens: &mut Tokens<'a>) -> Result<&'a [u8], LineError>
 fn take_opening<'a>(
     tokens: &mut Tokens<'a>,
     word: OperatorWord<'a>,
-) -> Result<Operator<'a>, LineError>
-    ensures { Gives (λ operator. (operator_value operator, tokens.new)) result (opening_of (word_value word.entry) tokens.old) }
+) -> Result<Operator<'a>, ReadCause>
+    ensures { opening_of (word_value word.entry) tokens.old ≡ result_map (λ operator. (operator_value operator, tokens.new)) result }
 {
     take_open(tokens)?;
     match word {
@@ -84,34 +82,30 @@ fn take_opening<'a>(
 }
 
 /// What a proposition begins with.
-pub fn take_head<'a>(
-    tokens: &mut Tokens<'a>,
-    table: &Words<'_, WORD_COUNT>,
-) -> Result<Head<'a>, LineError>
-    requires { table.now ≡ operator_table }
-    ensures { Gives (λ head. (head_value head, tokens.new)) result (head_of tokens.old) }
+pub fn take_head<'a>(tokens: &mut Tokens<'a>) -> Result<Head<'a>, ReadCause>
+    ensures { head_of tokens.old ≡ result_map (λ head. (head_value head, tokens.new)) result }
 {
     let Some(Token::Word(word)) = tokens.next() else {
-        return Err(LineError::Refused(ReadCause::Form));
+        return Err(ReadCause::Form);
     };
-    match operator_word(table, word) {
+    match operator_word(word) {
         Some(first) => {
             let operator = take_opening(tokens, first)?;
             Ok(Head::Opens(operator))
         }
-        None if is_reserved(word) => Err(LineError::Refused(ReadCause::Form)),
+        None if is_reserved(word) => Err(ReadCause::Form),
         None => Ok(Head::Name(word)),
     }
 }
 
 /// What follows a proposition.
-pub fn take_joint(tokens: &mut Tokens<'_>) -> Result<Joint, LineError>
-    ensures { Gives (λ joint. (joint, tokens.new)) result (joint_of tokens.old) }
+pub fn take_joint(tokens: &mut Tokens<'_>) -> Result<Joint, ReadCause>
+    ensures { joint_of tokens.old ≡ result_map (λ joint. (joint, tokens.new)) result }
 {
     match tokens.next() {
         None => Ok(Joint::End),
         Some(Token::Mark(Symbol::Comma)) => Ok(Joint::Further),
         Some(Token::Mark(Symbol::Close)) => Ok(Joint::Closes),
-        _ => Err(LineError::Refused(ReadCause::Form)),
+        _ => Err(ReadCause::Form),
     }
 }

@@ -1,12 +1,11 @@
 //! The operators of a proposition, and the words that they begin with.
 
-ghost use Rattle.std.specs.Prelude.{◌≡◌, Some};
+ghost use Rattle.std.specs.Prelude.{◌≡◌, ◌+◌, ◌-◌, ◌*◌, ◌^◌, min};
 ghost use Rattle.std.specs.Option.{option_map};
+ghost use Rattle.text_grammar.specs.Digits.{value_after};
 ghost use Rattle.gdp_grammar.specs.PropReading.{operator_of};
-ghost use Rattle.gdp_tables.specs.Keywords.{keywords_of};
-ghost use Rattle.prop_reader.specs.Operators.{operator_keywords, operator_table, coded_word, word_value};
-
-use gdp_tables::{Word, Words};
+ghost use Rattle.gdp_grammar.specs.PropTexts.{takes as takes_so_many};
+ghost use Rattle.prop_reader.specs.steps.Operators.{operator_value, word_value, operator_number};
 
 /// How a counting operator compares how many of its arguments are true with its number.
 #[derive(Clone, Copy)]
@@ -35,61 +34,61 @@ pub enum OperatorWord<'a> {
     Number(Counting),
 }
 
-/// The number of words that operators begin with.
-pub const WORD_COUNT: usize = 9;
-
-/// The words that operators begin with, each with its code.
-pub fn operator_words() -> [Word; WORD_COUNT]
-    ensures { keywords_of result ≡ operator_keywords }
-{
-    [
-        Word::new("not", 0),
-        Word::new("and", 1),
-        Word::new("or", 2),
-        Word::new("implies", 3),
-        Word::new("equivalent", 4),
-        Word::new("xor", 5),
-        Word::new("exactly", 6),
-        Word::new("atleast", 7),
-        Word::new("atmost", 8),
-    ]
-}
-
-/// The table of the words that operators begin with.
-pub fn operator_finder(words: &[Word; WORD_COUNT]) -> Words<'_, WORD_COUNT>
-    requires { keywords_of words.now ≡ operator_keywords }
-    ensures { result ≡ operator_table }
-{
-    match Words::new(words, false) {
-        Some(table) => table,
-        None => unreachable!(),
-    }
-}
-
-/// What the word with this code begins.
-fn word_of<'a>(code: u8) -> OperatorWord<'a>
-    ensures { word_value result ≡ coded_word code }
-{
-    match code {
-        0 => OperatorWord::Plain(Operator::Not),
-        1 => OperatorWord::Plain(Operator::And),
-        2 => OperatorWord::Plain(Operator::Or),
-        3 => OperatorWord::Plain(Operator::Implies),
-        4 => OperatorWord::Plain(Operator::Equivalent),
-        5 => OperatorWord::Plain(Operator::Xor),
-        6 => OperatorWord::Number(Counting::Exactly),
-        7 => OperatorWord::Number(Counting::AtLeast),
-        _ => OperatorWord::Number(Counting::AtMost),
-    }
-}
-
 /// What the word begins, if an operator begins with it.
-pub fn operator_word<'a>(table: &Words<'_, WORD_COUNT>, word: &str) -> Option<OperatorWord<'a>>
-    requires { table.now ≡ operator_table }
+pub fn operator_word<'a>(word: &str) -> Option<OperatorWord<'a>>
     ensures { option_map word_value result ≡ operator_of word.now }
 {
-    match table.find(word.as_bytes()) {
-        Some(code) => Some(word_of(code)),
-        None => None,
+    match word {
+        "not" => Some(OperatorWord::Plain(Operator::Not)),
+        "and" => Some(OperatorWord::Plain(Operator::And)),
+        "or" => Some(OperatorWord::Plain(Operator::Or)),
+        "implies" => Some(OperatorWord::Plain(Operator::Implies)),
+        "equivalent" => Some(OperatorWord::Plain(Operator::Equivalent)),
+        "xor" => Some(OperatorWord::Plain(Operator::Xor)),
+        "exactly" => Some(OperatorWord::Number(Counting::Exactly)),
+        "atleast" => Some(OperatorWord::Number(Counting::AtLeast)),
+        "atmost" => Some(OperatorWord::Number(Counting::AtMost)),
+        _ => None,
     }
+}
+
+/// Whether the operator takes so many arguments.
+pub fn takes(operator: &Operator<'_>, count: usize) -> bool
+    ensures { result ≡ takes_so_many (operator_value operator.now) count }
+{
+    match operator {
+        Operator::Not => count == 1,
+        Operator::Implies | Operator::Equivalent | Operator::Xor => count == 2,
+        Operator::And | Operator::Or | Operator::Counted(_, _) => count >= 1,
+    }
+}
+
+/// The number of a counting operator, and 0 of another. It stays at the last of its type where it is more.
+pub fn number_in(operator: &Operator<'_>) -> u32
+    ensures { result ≡ operator_number (operator_value operator.now) }
+{
+    match operator {
+        Operator::Counted(_, digits) => number_of(digits),
+        _ => 0,
+    }
+}
+
+/// The number that digits spell, or the last of its type where it is more.
+pub fn number_of(digits: &[u8]) -> u32
+    ensures { result ≡ min (value_after 0 digits.now) (2 ^ 32 - 1) }
+{
+    let mut number = 0;
+    'digits: for digit in digits {
+        number = push_digit(number, *digit);
+    }
+    number
+}
+
+/// The number and one digit more.
+fn push_digit(number: u32, digit: u8) -> u32
+    ensures { result ≡ min (number * 10 + (digit - 48)) (2 ^ 32 - 1) }
+{
+    number
+        .saturating_mul(10)
+        .saturating_add(u32::from(digit.saturating_sub(b'0')))
 }

@@ -1,12 +1,14 @@
 //! The lines about the tokens of a line, and about how a text is cut into lines.
 
 use crate::words::{bytes, bytes_text};
+use gdp_grammar::ReadCause;
 use gdp_lines::value::value;
-use gdp_lines::{Token, Tokens, are_words, first_line, without_comment};
+use gdp_lines::{LineError, Token, Tokens, are_words, first_line, without_comment};
 use model_builder::ModelBuilder;
-use prop_reader::build::build;
-use prop_reader::measure::{Size, measure};
-use propositions::{depth, greatest_number, most_arguments, node_count};
+use prop_reader::opened::Reading;
+use prop_reader::read::read_prop;
+use prop_reader::size::Size;
+use propositions::{Prop, depth, greatest_number, most_arguments, node_count};
 use script::{Trouble, first_word, shown};
 use std::alloc::Global;
 
@@ -21,22 +23,21 @@ fn builder(alloc: Global) -> Result<ModelBuilder, Trouble> {
     Ok(builder)
 }
 
-/// The sizes of a proposition of p and q that is only measured, and then those of the one that is built.
-pub fn logic(alloc: Global, text: &str) -> Result<String, Trouble> {
+// What is read of a proposition of p and q.
+fn read(alloc: Global, text: &str) -> Result<Result<Reading, LineError>, Trouble> {
     let builder = builder(alloc)?;
-    let measured = match measure(alloc, &builder, &mut Tokens::new(text.as_bytes())) {
-        Ok(size) => size_text(alloc, &size)?,
-        Err(error) => format!(in alloc; "{error:?}")?,
-    };
-    let built = match build(alloc, &builder, &mut Tokens::new(text.as_bytes())) {
-        Ok(prop) => {
-            let (greatest, deep) = (greatest_number(&prop), depth(&prop));
-            let (nodes, most) = (node_count(&prop), most_arguments(&prop));
-            format!(in alloc; "{greatest} {deep} {nodes} {most}")?
+    Ok(read_prop(alloc, &builder, &mut Tokens::new(text.as_bytes())))
+}
+
+/// The size of a proposition of p and q as it is read, and then that of its tree, or the cause against it.
+pub fn logic(alloc: Global, text: &str) -> Result<String, Trouble> {
+    let text = match read(alloc, text)? {
+        Ok(Reading { size, prop }) => {
+            let (size, tree) = (size_text(alloc, &size)?, tree_text(alloc, &prop)?);
+            format!(in alloc; "{size}, {tree}")?
         }
         Err(error) => format!(in alloc; "{error:?}")?,
     };
-    let text = format!(in alloc; "{measured}, {built}")?;
     Ok(text)
 }
 
@@ -47,31 +48,41 @@ fn size_text(alloc: Global, size: &Size) -> Result<String, Trouble> {
     Ok(text)
 }
 
+fn tree_text(alloc: Global, prop: &Result<Prop, ReadCause>) -> Result<String, Trouble> {
+    let text = match prop {
+        Ok(prop) => {
+            let (greatest, deep) = (greatest_number(prop), depth(prop));
+            let (nodes, most) = (node_count(prop), most_arguments(prop));
+            format!(in alloc; "{greatest} {deep} {nodes} {most}")?
+        }
+        Err(cause) => format!(in alloc; "{cause:?}")?,
+    };
+    Ok(text)
+}
+
 /// Whether each name in a proposition is p or q.
 pub fn known(alloc: Global, text: &str) -> Result<String, Trouble> {
-    let builder = builder(alloc)?;
-    match measure(alloc, &builder, &mut Tokens::new(text.as_bytes())) {
-        Ok(size) => shown(alloc, &size.known),
+    match read(alloc, text)? {
+        Ok(Reading { size, .. }) => shown(alloc, &size.known),
         Err(_) => Err(Trouble::Line),
     }
 }
 
-/// Measures so many negations of p, without and with the closing parentheses: depth, nodes and most arguments.
+/// Reads so many negations of p, without and with the closing parentheses: depth, nodes and most arguments.
 pub fn deep(alloc: Global, count: u32) -> Result<String, Trouble> {
-    let builder = builder(alloc)?;
     let mut text = String::new(alloc);
     for _ in 0..count {
         text.push_str("not(")?;
     }
-    let open = match measure(alloc, &builder, &mut Tokens::new(text.as_bytes())) {
-        Ok(size) => size_text(alloc, &size)?,
+    let open = match read(alloc, text.as_str())? {
+        Ok(Reading { size, .. }) => size_text(alloc, &size)?,
         Err(error) => format!(in alloc; "{error:?}")?,
     };
     text.push_str("p")?;
     for _ in 0..count {
         text.push_str(")")?;
     }
-    let Ok(size) = measure(alloc, &builder, &mut Tokens::new(text.as_bytes())) else {
+    let Ok(Reading { size, .. }) = read(alloc, text.as_str())? else {
         return Err(Trouble::Line);
     };
     let (depth, nodes, most) = (size.depth, size.nodes, size.most);

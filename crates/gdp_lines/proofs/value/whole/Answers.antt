@@ -1,14 +1,11 @@
 use Rattle.std.proofs.Common.{ℤ, pos, ap, ◌∙◌, to_z-of_z}
 use Rattle.fractions.specs.Fraction.{Fraction}
-use Rattle.gdp_lines.proofs.Values.{whole_only, never_refused}
+use Rattle.gdp_lines.proofs.Values.{whole_only}
 use Rattle.gdp_lines.proofs.value.whole.Goals as goal
 
 over_one : ℤ → Fraction
 over_one n = record { num = n; den = pos 1 }
 
-pub unreachable-requires : goal.unreachable-requires
-unreachable-requires c = never_refused c.args.number c.ranges.number (simp (to_z-of_z c.ranges.number) at c.in-None.ensures.refused)
-
 pub returns : goal.returns
 unfolding over_one
-returns c = whole_only _ _ c.in-Some.ensures.reduced ∙ ap over_one (to_z-of_z c.ranges.number)
+returns c = whole_only _ _ c.reduced.ensures ∙ ap over_one (to_z-of_z c.ranges.number)

@@ -3,7 +3,7 @@ use Rattle.model_builder.specs.Standing.{stands_for}
 use Rattle.gdp_grammar.specs.Reading.{with_logic}
 use Rattle.gdp_lines.specs.declared.fault.LineError.{LineError}
 use Rattle.gdp_lines.specs.Gives.{Fails}
-use Rattle.gdp_reader.proofs.LogicSteps.{in_a_disjunction, line_fails, added_fails, added_leaves}
+use Rattle.gdp_reader.proofs.LogicLemmas.{in_a_disjunction, line_fails, added_fails, added_leaves}
 use Rattle.gdp_reader.proofs.building.add_logic.Goals as goal
 
 pub returns-then-is_in_disjunction : goal.returns-then-is_in_disjunction

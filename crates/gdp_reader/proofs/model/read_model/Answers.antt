@@ -1,4 +1,4 @@
-use Rattle.gdp_reader.proofs.Ends.{found_spelled, only_spelled, refused_bad}
+use Rattle.gdp_reader.proofs.EndsLemmas.{found_spelled, only_spelled, refused_bad}
 use Rattle.gdp_reader.proofs.model.read_model.Goals as goal
 
 pub returns : goal.returns

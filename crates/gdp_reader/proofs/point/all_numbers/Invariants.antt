@@ -1,6 +1,6 @@
 use Rattle.std.proofs.Common.{◌≡◌, drop, length}
 use Rattle.gdp_grammar.specs.PointReading.{all_numbers}
-use Rattle.gdp_reader.proofs.PointNumbers.{with_numbers}
+use Rattle.gdp_reader.proofs.PointNumbersLemmas.{with_numbers}
 use Rattle.gdp_reader.proofs.point.all_numbers.Given as goal
 
 abbrev pub invariant-numbers : goal.invariant-numbers

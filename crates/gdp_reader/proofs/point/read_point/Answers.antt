@@ -1,5 +1,5 @@
 use Rattle.model_tree.specs.Values.{model_tree}
-use Rattle.gdp_reader.proofs.PointEnds.{found_point, only_point, refused_point}
+use Rattle.gdp_reader.proofs.PointEndsLemmas.{found_point, only_point, refused_point}
 use Rattle.gdp_reader.proofs.point.read_point.Goals as goal
 
 pub returns-clause-found : goal.returns-clause-found

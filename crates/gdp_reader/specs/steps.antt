@@ -1,0 +1,3 @@
+-- What only the reader's own loops need.
+pub mod Errors
+pub mod Terms
