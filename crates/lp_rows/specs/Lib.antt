@@ -1,3 +1,4 @@
 pub mod Holding
+pub mod Kinds
 pub mod Points
 pub mod Rows
