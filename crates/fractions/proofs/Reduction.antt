@@ -7,7 +7,7 @@ use Rattle.std.proofs.lemmas.Nat.Gcd.{le_of_dvd, dvd_antisymm}
 use Rattle.std.proofs.lemmas.Int.{ints, unsigned_abs-mul}
 use Rattle.int_linear.proofs.Ring.{products, pos_cancel, mul_cancel, neg_mul}
 use Rattle.fractions.specs.Fraction.{Fraction, IsLowest, IsReduced}
-use Rattle.fractions.proofs.Scaled.{scaled_gcd}
+use Rattle.fractions.proofs.GcdLemmas.{scaled_gcd}
 
 pub size_positive : (a : ℤ) → a ≢ pos 0 → 0 < unsigned_abs a
 size_positive (pos zero) h = absurd (h refl)
@@ -68,7 +68,7 @@ same_size (pos a) (negsuc b) x y e = absurd (omega (arith, ints))
 same_size (negsuc a) b x y e = absurd (omega (arith, ints))
 
 -- fractions in lowest terms with one value are one fraction
-pub lowest_same : (p q r s : ℤ) → IsLowest p q → IsLowest r s → p *ℤ s ≡ r *ℤ q → (p ≡ r) × (q ≡ s)
+pub lowest_same : (p q r s : ℤ) → IsLowest (record { num = p; den = q }) → IsLowest (record { num = r; den = s }) → p *ℤ s ≡ r *ℤ q → (p ≡ r) × (q ≡ s)
 lowest_same p q r s left right e =
     let dens : q ≡ s = same_size q s left.positive right.positive (dvd_antisymm (lowest_divides p q r s left.coprime e) (lowest_divides r s p q right.coprime (sym e))) in
     let nums : q *ℤ p ≡ q *ℤ r = (let z : p *ℤ q ≡ r *ℤ q = subst (λ n. p *ℤ n ≡ r *ℤ q) (sym dens) e in simp products (omega (arith, ints))) in

@@ -15,7 +15,7 @@ use Rattle.model_tree.specs.declared.errors.BuildError.{BuildError}
 use Rattle.model_tree.specs.declared.errors.BuildError.TheVariants.{Limit}
 use Rattle.model_tree.specs.Bounds.{is_bound}
 use Rattle.model_builder.specs.Building.{BuildingValue, is_at_root, is_taken, rows_so_far}
-use Rattle.model_tree.specs.Scaling.{are_ids_below, refusal_of_terms}
+use Rattle.model_tree.specs.Scaling.{refusal_of_terms}
 use Rattle.model_tree.specs.Names.{is_name, are_names}
 use Rattle.model_builder.specs.Nesting.{goal_outcome}
 use Rattle.model_tree.specs.Scaling.{refusal_of_scale}
@@ -79,13 +79,13 @@ pub record AreWhole (s : ℕ) (ts : List (ℕ × ℤ)) (n : ℤ) : Type 0 where
   pub number : is_storable n ≡ true
   pub least : (d : ℕ) → divides_all d (s ∷ unsigned_abs n ∷ map (λ t. unsigned_abs t.1) ts) ≡ true → d ≡ 1
 
-ids_over : (n : ℕ) (scale : ℤ) (ts : List (ℕ × ℤ)) → are_ids_below n (terms_over scale ts) ≡ ids_below n ts
+ids_over : (n : ℕ) (scale : ℤ) (ts : List (ℕ × ℤ)) → ids_below n (terms_over scale ts) ≡ ids_below n ts
 ids_over n scale [] = refl
 ids_over n scale (t ∷ ts) = ap (λ b. nat_lt t.0 n && b) (ids_over n scale ts)
 
 -- none of the causes of terms holds
 pub terms_pass : (n s : ℕ) (ts : List (ℕ × ℤ)) (z : ℤ) (below : Option BuildError) → AreWhole s ts z → ids_below n ts ≡ true
-    → refusal_of_terms (are_ids_below n (terms_over (pos s) ts)) (terms_over (pos s) ts) (over (pos s) z) below ≡ below
+    → refusal_of_terms (ids_below n (terms_over (pos s) ts)) (terms_over (pos s) ts) (over (pos s) z) below ≡ below
 terms_pass n s ts z below w ids =
     rw (
       never_twice 0 (terms_over (pos s) ts) (ascends_over (pos s) 0 ts ∙ w.ascends),
@@ -189,7 +189,7 @@ pub record CanAim (b : BuildingValue) (names : List (List ℕ)) (g : GoalValue) 
   pub ids : ids_below (length names) g.terms ≡ true
 
 -- a constant of 0 is left out and read as 0
-nought_over : (f : fraction.Fraction) → IsLowest f.num f.den → f.num ≡ pos 0 → f ≡ record { num = pos 0; den = pos 1 }
+nought_over : (f : fraction.Fraction) → IsLowest f → f.num ≡ pos 0 → f ≡ record { num = pos 0; den = pos 1 }
 nought_over f h e =
     reduced_same (pos 0) (pos 1) f (record { num = pos 0; den = pos 1 })
     (record { divisible = λ q. absurd (omega (arith, ints, q)); lowest = h; same = ap (λ z. z *ℤ pos 1) e ∙ zeros f.den })

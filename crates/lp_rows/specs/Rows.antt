@@ -12,9 +12,13 @@ pub record RowValue : Type 0 where
   pub rel : Rel
   pub right : ℤ
 
--- a row, a goal or a bound may store the number: it is at most 10^15 in magnitude
+-- the greatest magnitude of a number that a row, a goal or a bound stores
+abbrev pub largest : ℕ
+largest = 10 ^ 15
+
+-- a row, a goal or a bound may store the number
 abbrev pub is_storable : ℤ → Bool
-is_storable number = nat_le (unsigned_abs number) (10 ^ 15)
+is_storable number = nat_le (unsigned_abs number) largest
 
 -- each id is at least `least`, and more than the id before it
 abbrev pub ascends_from : {A : Type 0} → ℕ → List (ℕ × A) → Bool
@@ -36,6 +40,6 @@ row_refusal terms right =
     (refuse_if (has_zero terms) Zero
     (refuse_if (not (are_storable terms && is_storable right)) Coefficient None))
 
--- what `Row::make` answers where memory is had
+-- what `Row::make` answers if memory suffices
 abbrev pub row_made : List (ℕ × ℤ) → Rel → ℤ → Result RowValue RowError
 row_made terms rel right = refused_or (row_refusal terms right) (record { terms = terms; rel = rel; right = right })

@@ -2,7 +2,7 @@
 
 ghost use Rattle.std.specs.Prelude.{◌≡◌, true, pos, Ok, Err, ◌+ℤ◌, ◌*ℤ◌, ◌&&◌, if◌then◌else◌, int_le, length};
 ghost use Rattle.int_linear.specs.Sums.{at as at_place};
-ghost use Rattle.lp_rows.specs.Holding.{ids_below, sum_or_wide, row_test, stands};
+ghost use Rattle.lp_rows.specs.Holding.{ids_below, sum_or_wide, row_test, rel_holds};
 
 use crate::kinds::Rel;
 use crate::points::Point;
@@ -44,7 +44,7 @@ pub fn sum_at(terms: &[(u32, i128)], nums: &[i128]) -> Result<i128, Wide>
 }
 
 /// Whether each term names one of the first `count` places.
-pub fn are_ids_below(terms: &[(u32, i128)], count: usize) -> bool
+pub fn are_ids_below<T>(terms: &[(u32, T)], count: usize) -> bool
     ensures { result ≡ ids_below count terms.now }
 {
     terms.iter().all(|term| (term.0 as usize) < count)
@@ -52,7 +52,7 @@ pub fn are_ids_below(terms: &[(u32, i128)], count: usize) -> bool
 
 // Whether the sum stands in the relation to the right side.
 fn compare(rel: Rel, sum: i128, right: i128) -> bool
-    ensures { result ≡ stands rel sum right }
+    ensures { result ≡ rel_holds rel sum right }
 {
     match rel {
         Rel::AtMost => sum <= right,

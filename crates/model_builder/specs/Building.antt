@@ -14,7 +14,8 @@ use Rattle.model_tree.specs.Sound.{is_empty}
 use Rattle.model_tree.specs.Bounds.{is_bound}
 use Rattle.model_tree.specs.Limits.{most_variables, most_rows}
 use Rattle.model_tree.specs.Names.{has_name, is_name}
-use Rattle.model_tree.specs.Scaling.{are_ids_below, refusal_of_terms, stored_row}
+use Rattle.lp_rows.specs.Holding.{ids_below}
+use Rattle.model_tree.specs.Scaling.{refusal_of_terms, stored_row}
 use Rattle.model_tree.specs.Tree.{BlockTree, block, row_count_below, row_count_within}
 use Rattle.model_tree.specs.Variables.{VarValue, BooleanValue}
 use Rattle.model_tree.specs.Values.{GoalValue, no_goal, ModelTree}
@@ -95,7 +96,7 @@ rows_so_far b = rows_in_open b.inner + rows_in_opened b.opened + rows_around b.o
 abbrev pub refusal_of_row : List (ℕ × Fraction) → Fraction → BuildingValue → Option BuildError
 refusal_of_row terms right b =
     refuse_if (is_some b.opened) Place
-    (refusal_of_terms (are_ids_below (length b.vars) terms) terms right
+    (refusal_of_terms (ids_below (length b.vars) terms) terms right
     (refuse_if (nat_le most_rows (rows_so_far b)) Limit None))
 
 -- a row is appended to the innermost open block

@@ -10,7 +10,8 @@ use Rattle.model_tree.specs.Limits.{most_booleans, deepest_disjunct}
 use Rattle.model_builder.specs.Building.{BuildingValue, OpenBlock, OpenDisjunction, empty_block, is_at_root, is_taken, closed_block}
 use Rattle.model_tree.specs.Sound.{is_empty}
 use Rattle.model_tree.specs.Names.{is_name}
-use Rattle.model_tree.specs.Scaling.{are_ids_below, refusal_of_terms, refusal_of_scale, stored_goal}
+use Rattle.lp_rows.specs.Holding.{ids_below}
+use Rattle.model_tree.specs.Scaling.{refusal_of_terms, refusal_of_scale, stored_goal}
 use Rattle.model_tree.specs.View.{DisjunctTree, DisjunctionTree, disjuncts}
 
 -- why a Boolean is refused
@@ -29,7 +30,7 @@ boolean_outcome name mark b =
 abbrev pub refusal_of_goal : List (ℕ × Fraction) → Fraction → BuildingValue → Option BuildError
 refusal_of_goal terms constant b =
     refuse_if (not (is_at_root b) || is_some b.goal) Place
-    (refusal_of_terms (are_ids_below (length b.vars) terms) terms constant (refusal_of_scale terms constant))
+    (refusal_of_terms (ids_below (length b.vars) terms) terms constant (refusal_of_scale terms constant))
 
 -- the goal is set
 abbrev pub goal_outcome : Sense → List (ℕ × Fraction) → Fraction → ℕ → BuildingValue → Result (Unit {0}) BuildError × BuildingValue

@@ -2,14 +2,14 @@
 -- refused.
 use Rattle.std.specs.Prelude.{ℕ, zero, suc, ◌*◌, ◌/◌, ◌%◌, ℤ, pos, ◌*ℤ◌, Bool, false, not, ◌&&◌, ◌||◌, List, [], ◌∷◌, map, All, Option, None, unsigned_abs, if◌then◌else◌, nat_lt, ◌==◌}
 use Rattle.std.specs.List.{list_all, list_any}
-use Rattle.fractions.specs.Fraction.{Fraction}
+use Rattle.fractions.specs.Fraction.{Fraction, IsLowest}
 use Rattle.outcomes.specs.Calls.{refuse_if}
 use Rattle.lp_rows.specs.declared.kinds.Rel.{Rel}
 use Rattle.lp_rows.specs.declared.kinds.Sense.{Sense}
 use Rattle.lp_rows.specs.Rows.{RowValue, is_storable, has_zero, are_storable}
 use Rattle.model_tree.specs.declared.errors.BuildError.{BuildError}
 use Rattle.model_tree.specs.declared.errors.BuildError.TheVariants.{NameTwice, NameUnknown, Number}
-use Rattle.model_tree.specs.Bounds.{has_small_parts, IsInLowest}
+use Rattle.model_tree.specs.Bounds.{has_small_parts}
 use Rattle.model_tree.specs.Values.{GoalValue}
 
 -- the whole number d divides k
@@ -48,7 +48,7 @@ are_positive ds = list_all (λ d. nat_lt 0 d) ds
 
 -- the terms and the number are in lowest terms
 abbrev pub AreLowest : List (ℕ × Fraction) → Fraction → Type 0
-AreLowest ts number = All (λ t. IsInLowest t.1) ts × IsInLowest number
+AreLowest ts number = All (λ t. IsLowest t.1) ts × IsLowest number
 
 -- the least positive whole number that makes the terms and this number whole
 abbrev pub scale_of : List (ℕ × Fraction) → Fraction → ℕ
@@ -93,10 +93,6 @@ first_above id (t ∷ ts) = if nat_lt id t.0 then 0 else suc (first_above id ts)
 -- the terms that are stored: times the whole number k, in the order of their ids
 abbrev pub stored_terms : ℕ → List (ℕ × Fraction) → List (ℕ × ℤ)
 stored_terms k ts = scaled_terms k (sorted_terms ts)
-
--- each id is below n
-abbrev pub are_ids_below : {A : Type 0} → ℕ → List (ℕ × A) → Bool
-are_ids_below n ts = list_all (λ t. nat_lt t.0 n) ts
 
 -- The numbers of a row or goal may be stored: those given have small parts, and of those that scaling by k makes no
 -- coefficient is 0 and all are small.
