@@ -9,8 +9,8 @@
 pub mod errors;
 
 pub use errors::{BuildError, SumWide, ValueWide, Verdict};
-pub use model_items::{item_count, item_tri, items, laws, occurring, occurs};
 pub use model_builder::{ModelBuilder, builder, parts};
+pub use model_items::{item_count, item_tri, items, laws, occurring, occurs};
 pub use model_tree::{
     Block, Booleans, Bound, Disjunct, Disjunction, Goal, Mode, Model, ModelPoint, Names, Variables,
     begins_name, bounds, continues_name, declarations, is_name, limits, models, names, points,

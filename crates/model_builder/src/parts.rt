@@ -21,9 +21,7 @@ ghost use Rattle.model_tree.specs.View.{block_of, disjunct_of, disjunction_of};
 use crate::prop_limits::{has_fair_lists, has_small_numbers, is_shallow};
 use fractions::Frac;
 use lp_rows::{Kind, Rel, Row, Sense};
-use model_tree::limits::{
-    DEEPEST_DISJUNCT, MOST_BOOLEANS, MOST_NODES, MOST_ROWS, MOST_VARIABLES,
-};
+use model_tree::limits::{DEEPEST_DISJUNCT, MOST_BOOLEANS, MOST_NODES, MOST_ROWS, MOST_VARIABLES};
 use model_tree::models::Goal;
 use model_tree::scaling::{is_bound, stored_goal, stored_row};
 use model_tree::{
