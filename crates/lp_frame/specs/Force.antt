@@ -1,4 +1,5 @@
--- What holds at a node of a search: columns, at-most rows and a goal; its points; and when it is bounded in size.
+-- What holds at a node of a search: columns, at-most rows and a goal; its points; and when it is
+-- bounded in size.
 use Rattle.std.specs.Prelude.{◌≡◌, ◌<◌, ◌^◌, ℕ, List, length, ℤ, pos, ◌*ℤ◌, ◌≤ℤ◌, Bool, ◌&&◌, nat_le, nat_lt, unsigned_abs, All}
 use Rattle.std.specs.List.{list_all}
 use Rattle.int_linear.specs.Terms.{dot}
@@ -9,7 +10,8 @@ use Rattle.lp_frame.specs.declared.force.AtMost.{AtMost}
 use Rattle.lp_frame.specs.declared.force.Force.{Force}
 use Rattle.lp_frame.specs.Split.{place, sign_at}
 
--- the row holds at these numerators over this denominator: the sum of its terms is at most its bound
+-- the row holds at these numerators over this denominator: the sum of its terms is at most its
+-- bound
 abbrev pub HoldsAt : ℤ → (ℕ → ℤ) → AtMost → Type 0
 HoldsAt over numbers row = dot row.terms numbers ≤ℤ (row.bound *ℤ over)
 
@@ -22,7 +24,8 @@ pub record IsForcePoint (force : Force) (over : ℤ) (numbers : ℕ → ℤ) : T
 abbrev pub is_narrow : ℤ → Bool
 is_narrow z = nat_lt (unsigned_abs z) (2 ^ 127)
 
--- terms over n columns: ids ascend strictly and are below n, and no coefficient is the least of i128
+-- terms over n columns: ids ascend strictly and are below n, and no coefficient is the least of
+-- i128
 abbrev pub are_terms : ℕ → List (ℕ × ℤ) → Bool
 are_terms n ts = ascends_from 0 ts && ids_below n ts && list_all (λ t. is_narrow t.1) ts
 
