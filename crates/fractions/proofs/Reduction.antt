@@ -68,7 +68,7 @@ same_size (pos a) (negsuc b) x y e = absurd (omega (arith, ints))
 same_size (negsuc a) b x y e = absurd (omega (arith, ints))
 
 -- fractions in lowest terms with one value are one fraction
-pub lowest_same : (p q r s : ℤ) → IsLowest p q → IsLowest r s → p *ℤ s ≡ r *ℤ q → (p ≡ r) × (q ≡ s)
+pub lowest_same : (p q r s : ℤ) → IsLowest (record { num = p; den = q }) → IsLowest (record { num = r; den = s }) → p *ℤ s ≡ r *ℤ q → (p ≡ r) × (q ≡ s)
 lowest_same p q r s left right e =
     let dens : q ≡ s = same_size q s left.positive right.positive (dvd_antisymm (lowest_divides p q r s left.coprime e) (lowest_divides r s p q right.coprime (sym e))) in
     let nums : q *ℤ p ≡ q *ℤ r = (let z : p *ℤ q ≡ r *ℤ q = subst (λ n. p *ℤ n ≡ r *ℤ q) (sym dens) e in simp products (omega (arith, ints))) in

@@ -9,14 +9,14 @@ pub record Fraction : Type 0 where
   pub den : ℤ
 
 -- in lowest terms: the denominator is positive, and only 1 divides both parts
-pub record IsLowest (num den : ℤ) : Type 0 where
-  pub positive : pos 0 <ℤ den
-  pub coprime : IsGcd (unsigned_abs num) (unsigned_abs den) 1
+pub record IsLowest (f : Fraction) : Type 0 where
+  pub positive : pos 0 <ℤ f.den
+  pub coprime : IsGcd (unsigned_abs f.num) (unsigned_abs f.den) 1
 
 -- f is num / den in lowest terms
 pub record IsReduced (num den : ℤ) (f : Fraction) : Type 0 where
   pub divisible : den ≢ pos 0
-  pub lowest : IsLowest f.num f.den
+  pub lowest : IsLowest f
   pub same : f.num *ℤ den ≡ num *ℤ f.den
 
 -- both parts are in the range of i128

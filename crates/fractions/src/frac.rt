@@ -34,7 +34,7 @@ impl Model for Frac {
 
     ghost view = { λ f. record { num = f.num; den = f.den } };
 
-    ghost invariant = { λ f. IsLowest f.num f.den };
+    ghost invariant = { λ f. IsLowest (record { num = f.num; den = f.den }) };
 
     ghost inverse = { λ f. record { num = f.num; den = f.den } };
 }
@@ -77,7 +77,7 @@ impl Frac {
     /// The denominator, at least 1.
     pub fn den(&self) -> i128
         ensures den { result ≡ self.now.den }
-        ensures lowest { IsLowest self.now.num self.now.den }
+        ensures lowest { IsLowest self.now }
     {
         self.den
     }

@@ -2,7 +2,7 @@
 //!
 //! Each call gives the exact value, or says that a number left 128 bits. Read `wide.rt` with `specs/Width.antt` (what
 //! fits), then `divisors.rt`, and `frac.rt` with `specs/Fraction.antt`. What lowest terms are is said there alone:
-//! `IsLowest` of two parts, `IsReduced` of the quotient that it is. `specs/Lowest.antt` computes that quotient.
+//! `IsLowest` of a fraction, `IsReduced` of the quotient that it is. `specs/Lowest.antt` computes that quotient.
 #![tactic(auto)]
 
 pub mod divisors;

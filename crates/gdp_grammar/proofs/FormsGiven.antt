@@ -14,7 +14,7 @@ use Rattle.lp_rows.specs.Rows.{RowValue, is_storable, ascends_from, has_zero, ar
 use Rattle.model_tree.specs.declared.errors.BuildError.{BuildError}
 use Rattle.model_tree.specs.declared.errors.BuildError.TheVariants.{Limit}
 use Rattle.model_tree.specs.Bounds.{is_bound}
-use Rattle.model_tree.specs.Building.{BuildingValue, is_at_root, is_taken, are_ids_below, refusal_of_terms, rows_so_far}
+use Rattle.model_tree.specs.Building.{BuildingValue, is_at_root, is_taken, refusal_of_terms, rows_so_far}
 use Rattle.model_tree.specs.Names.{is_name, are_names}
 use Rattle.model_tree.specs.Nesting.{goal_outcome, refusal_of_scale}
 use Rattle.model_tree.specs.Scaling.{divides_all, is_multiple}
@@ -76,7 +76,7 @@ pub record AreWhole (s : ℕ) (ts : List (ℕ × ℤ)) (n : ℤ) : Type 0 where
   pub number : is_storable n ≡ true
   pub least : (d : ℕ) → divides_all d (s ∷ unsigned_abs n ∷ map (λ t. unsigned_abs t.1) ts) ≡ true → d ≡ 1
 
-ids_over : (n : ℕ) (scale : ℤ) (ts : List (ℕ × ℤ)) → are_ids_below n (terms_over scale ts) ≡ ids_below n ts
+ids_over : (n : ℕ) (scale : ℤ) (ts : List (ℕ × ℤ)) → ids_below n (terms_over scale ts) ≡ ids_below n ts
 ids_over n scale [] = refl
 ids_over n scale (t ∷ ts) = ap (λ b. nat_lt t.0 n && b) (ids_over n scale ts)
 
@@ -186,7 +186,7 @@ pub record CanAim (b : BuildingValue) (names : List (List ℕ)) (g : GoalValue) 
   pub ids : ids_below (length names) g.terms ≡ true
 
 -- a constant of 0 is left out and read as 0
-nought_over : (f : fraction.Fraction) → IsLowest f.num f.den → f.num ≡ pos 0 → f ≡ record { num = pos 0; den = pos 1 }
+nought_over : (f : fraction.Fraction) → IsLowest f → f.num ≡ pos 0 → f ≡ record { num = pos 0; den = pos 1 }
 nought_over f h e =
     reduced_same (pos 0) (pos 1) f (record { num = pos 0; den = pos 1 })
     (record { divisible = λ q. absurd (omega (arith, ints, q)); lowest = h; same = ap (λ z. z *ℤ pos 1) e ∙ zeros f.den })

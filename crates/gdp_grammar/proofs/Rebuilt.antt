@@ -24,7 +24,7 @@ use Rattle.gdp_grammar.proofs.LinesAgain.{IsShort, IsEndShort, AreTermsAgain, nu
 
 -- a number that is written and read as itself: in lowest terms, of small parts
 pub record IsFit (f : fraction.Fraction) : Type 0 where
-  pub lowest : IsLowest f.num f.den
+  pub lowest : IsLowest f
   pub num : unsigned_abs f.num ≤ 10 ^ 15
   pub den : unsigned_abs f.den ≤ 10 ^ 15
 
@@ -43,7 +43,7 @@ den_some : (z : ℤ) → pos 0 <ℤ z → 0 < unsigned_abs z
 den_some (pos n) h = omega (arith, ints, h)
 den_some (negsuc n) h = absurd (omega (arith, ints, h))
 
-reduced_itself : (f : fraction.Fraction) → IsLowest f.num f.den → IsReduced f.num f.den f
+reduced_itself : (f : fraction.Fraction) → IsLowest f → IsReduced f.num f.den f
 reduced_itself f h = record { divisible = λ e. absurd (omega (arith, ints, e, h.positive)); lowest = h; same = refl }
 
 over_is : (f : fraction.Fraction) → IsFit f → over_part (numeral_for f) ≡ unsigned_abs f.num

@@ -1,4 +1,4 @@
--- The three-valued connectives, each a table of all its cases.
+-- The strong Kleene connectives of three truth values, each a table of all its cases.
 use Rattle.gdp_tables.specs.declared.tri.Tri.{Tri}
 use Rattle.gdp_tables.specs.declared.tri.Tri.TheVariants.{No, Yes, Open}
 

@@ -1,3 +1,4 @@
+pub mod Bools
 pub mod Ring
 pub mod Signs
 pub mod Totals

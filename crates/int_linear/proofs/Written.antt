@@ -1,6 +1,10 @@
--- Lists written place by place.
-use Rattle.std.proofs.Common.{◌≡◌, ◌≢◌, ◌<◌, ◌+◌, ℕ, List, length, get_or, set, arith, refl, sym, ◌∙◌, below_more, get_or-set_other, get_or-set_same, subst}
-use Rattle.int_linear.specs.Written.{IsWritten}
+-- A list that a loop writes place by place: what it has written, before the loop and one place further on.
+use Rattle.std.proofs.Common.{◌≡◌, ◌≢◌, ◌<◌, ◌≤◌, ◌+◌, ℕ, List, length, get_or, set, arith, refl, sym, ◌∙◌, below_more, get_or-set_other, get_or-set_same, subst}
+
+-- the places below j are as they should be, and the others are as they were
+pub record IsWritten {X : Type 0} (past : X) (Should : ℕ → X → Type 0) (before now : List X) (j : ℕ) : Type 0 where
+  pub done : (k : ℕ) → k < j → Should k (get_or now k past)
+  pub left : (k : ℕ) → j ≤ k → get_or now k past ≡ get_or before k past
 
 -- before the loop
 pub written_none : {X : Type 0} (d : X) (E : ℕ → X → Type 0) (before : List X) → IsWritten d E before before 0

@@ -2,4 +2,3 @@ pub mod Divisors
 pub mod Laws
 pub mod Sums
 pub mod Terms
-pub mod Written

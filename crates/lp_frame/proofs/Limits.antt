@@ -2,8 +2,8 @@
 use Rattle.std.proofs.Common.{◌≡◌, ◌≤◌, true, ◌&&◌, length, ℤ, arith, nat_le}
 use Rattle.std.specs.List.{list_all}
 use Rattle.std.proofs.lemmas.Bool.Decides.{nat_tests}
-use Rattle.fractions.specs.Width.{IsNarrow}
-use Rattle.lp_frame.specs.Force.{is_narrow, are_terms, is_row}
+use Rattle.fractions.specs.Width.{IsNarrow, is_narrow}
+use Rattle.lp_frame.specs.Force.{are_terms, is_row}
 use Rattle.lp_frame.specs.Standard.{Standard, is_standard}
 use Rattle.lp_frame.proofs.Both.{first, second}
 

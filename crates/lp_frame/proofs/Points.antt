@@ -9,7 +9,8 @@ use Rattle.lp_rows.specs.Points.{PointValue}
 use Rattle.lp_rows.specs.declared.columns.Col.{Col}
 use Rattle.lp_frame.specs.declared.force.AtMost.{AtMost}
 use Rattle.lp_frame.specs.declared.force.Force.{Force}
-use Rattle.lp_frame.specs.Force.{HoldsAt, IsForcePoint, is_narrow, are_terms, is_row, is_bounded}
+use Rattle.lp_frame.specs.Force.{HoldsAt, IsForcePoint, are_terms, is_row, is_bounded}
+use Rattle.fractions.specs.Width.{is_narrow}
 use Rattle.lp_frame.specs.Split.{place, sign_at, joined, lifted, split_terms}
 use Rattle.lp_frame.specs.Standard.{is_standard, standard_of, split_row, IsStandardPoint, IsSplit, SamePoints, IsLifted, KeepsPoint}
 use Rattle.lp_frame.proofs.Places.{place_within, place_length, width_some}

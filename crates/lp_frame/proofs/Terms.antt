@@ -11,7 +11,8 @@ use Rattle.lp_rows.specs.declared.columns.Col.{Col}
 use Rattle.lp_rows.specs.declared.columns.Sign.{Sign}
 use Rattle.lp_rows.specs.declared.columns.Sign.TheVariants.{Free, Nonneg}
 use Rattle.lp_frame.specs.declared.force.AtMost.{AtMost}
-use Rattle.lp_frame.specs.Force.{is_narrow, are_terms, is_row}
+use Rattle.lp_frame.specs.Force.{are_terms, is_row}
+use Rattle.fractions.specs.Width.{is_narrow}
 use Rattle.lp_frame.specs.Split.{width_of, place, sign_at, split_term, split_terms, joined, lifted}
 use Rattle.lp_frame.specs.Standard.{split_row}
 use Rattle.lp_frame.proofs.Places.{place_next, place_within, place_mono, place_zero}

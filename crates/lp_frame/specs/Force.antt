@@ -2,6 +2,7 @@
 -- bounded in size.
 use Rattle.std.specs.Prelude.{◌≡◌, ◌<◌, ◌^◌, ℕ, List, length, ℤ, pos, ◌*ℤ◌, ◌≤ℤ◌, Bool, ◌&&◌, nat_le, nat_lt, unsigned_abs, All}
 use Rattle.std.specs.List.{list_all}
+use Rattle.fractions.specs.Width.{is_narrow}
 use Rattle.int_linear.specs.Terms.{dot}
 use Rattle.lp_rows.specs.Holding.{ids_below}
 use Rattle.lp_rows.specs.Rows.{ascends_from}
@@ -19,10 +20,6 @@ HoldsAt over numbers row = dot row.terms numbers ≤ℤ (row.bound *ℤ over)
 pub record IsForcePoint (force : Force) (over : ℤ) (numbers : ℕ → ℤ) : Type 0 where
   pub signs : (j : ℕ) → j < length force.cols → sign_at force.cols j ≡ Nonneg → pos 0 ≤ℤ numbers j
   pub rows : All (HoldsAt over numbers) force.rows
-
--- a number that is not the least of i128
-abbrev pub is_narrow : ℤ → Bool
-is_narrow z = nat_lt (unsigned_abs z) (2 ^ 127)
 
 -- terms over n columns: ids ascend strictly and are below n, and no coefficient is the least of
 -- i128

@@ -4,7 +4,8 @@ ghost use Rattle.std.specs.Prelude.{◌≡◌, ◌≤◌, ◌<◌, ◌+◌, ◌^
 ghost use Rattle.std.specs.List.{list_all};
 ghost use Rattle.lp_rows.specs.Holding.{ids_below};
 ghost use Rattle.lp_frame.specs.Split.{place, ArePlaces, split_term, split_terms as terms_over_split};
-ghost use Rattle.lp_frame.specs.Force.{is_narrow, are_terms, is_row, is_bounded};
+ghost use Rattle.lp_frame.specs.Force.{are_terms, is_row, is_bounded};
+ghost use Rattle.fractions.specs.Width.{is_narrow};
 ghost use Rattle.lp_frame.specs.Standard.{is_standard, standard_of, split_row, SamePoints};
 
 use crate::force::{AtMost, AtMostList, Force};

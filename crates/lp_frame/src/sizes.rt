@@ -3,7 +3,8 @@
 ghost use Rattle.std.specs.Prelude.{◌≡◌, ◌≤◌, length};
 ghost use Rattle.std.specs.List.{list_all};
 ghost use Rattle.lp_frame.specs.Split.{place, width_of};
-ghost use Rattle.lp_frame.specs.Force.{is_narrow, are_terms, is_row, is_bounded};
+ghost use Rattle.lp_frame.specs.Force.{are_terms, is_row, is_bounded};
+ghost use Rattle.fractions.specs.Width.{is_narrow};
 
 use crate::force::{AtMost, Force};
 use lp_rows::{Col, Sign, are_ids_below, do_ids_ascend};

@@ -22,7 +22,7 @@ abbrev pub holds_at : RowValue → ℤ → (ℕ → ℤ) → Bool
 holds_at row over numbers = stands row.rel (dot row.terms numbers) (row.right *ℤ over)
 
 -- each term names one of the first n places
-abbrev pub ids_below : ℕ → List (ℕ × ℤ) → Bool
+abbrev pub ids_below : {A : Type 0} → ℕ → List (ℕ × A) → Bool
 ids_below n ts = list_all (λ t. nat_lt t.0 n) ts
 
 -- no product is wide, and no partial sum where they are added to `sum` in order

@@ -12,9 +12,13 @@ pub record RowValue : Type 0 where
   pub rel : Rel
   pub right : ℤ
 
--- a row, a goal or a bound may store the number: it is at most 10^15 in magnitude
+-- the greatest magnitude of a number that a row, a goal or a bound stores
+abbrev pub largest : ℕ
+largest = 10 ^ 15
+
+-- a row, a goal or a bound may store the number
 abbrev pub is_storable : ℤ → Bool
-is_storable number = nat_le (unsigned_abs number) (10 ^ 15)
+is_storable number = nat_le (unsigned_abs number) largest
 
 -- each id is at least `least`, and more than the id before it
 abbrev pub ascends_from : {A : Type 0} → ℕ → List (ℕ × A) → Bool

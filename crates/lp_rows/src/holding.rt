@@ -44,7 +44,7 @@ pub fn sum_at(terms: &[(u32, i128)], nums: &[i128]) -> Result<i128, Wide>
 }
 
 /// Whether each term names one of the first `count` places.
-pub fn are_ids_below(terms: &[(u32, i128)], count: usize) -> bool
+pub fn are_ids_below<T>(terms: &[(u32, T)], count: usize) -> bool
     ensures { result ≡ ids_below count terms.now }
 {
     terms.iter().all(|term| (term.0 as usize) < count)

@@ -2,8 +2,8 @@
 //!
 //! A row holds at a point exactly where the sum of its terms stands in its relation to its right side times
 //! the point's denominator; the call that tests it gives that answer, or says that a number left 128 bits.
-//! Read `kinds.rt` and `columns.rt` for the small types, `rows.rt` for what a row may be, `points.rt` for points,
-//! `holding.rt` for the test, and `lists.rt` for the lists that fields of these and other types are made of.
+//! Read `kinds.rt` and `columns.rt` for the small types, `lists.rt` for the lists that fields are made of, `rows.rt` for
+//! what a row may be, `points.rt` for points, and `holding.rt` for the test.
 #![tactic(auto)]
 
 pub mod columns;
@@ -15,7 +15,7 @@ pub mod rows;
 
 pub use columns::{Col, ColList, Sign, WideAt};
 pub use holding::{are_ids_below, row_holds, sum_at};
-pub use kinds::{Kind, Rel, Sense};
+pub use kinds::{Kind, Rel, Sense, is_of_kind};
 pub use lists::{Flags, Nums, Terms};
 pub use points::{Point, PointError};
 pub use rows::{

@@ -1,10 +1,11 @@
 //! Points: whole numerators over one denominator.
 
-ghost use Rattle.std.specs.Prelude.{◌≡◌, ◌≤ℤ◌, pos};
+ghost use Rattle.std.specs.Prelude.{◌≡◌, ◌≤ℤ◌, pos, IfOk};
 ghost use Rattle.outcomes.specs.Calls.{OrMemory};
 ghost use Rattle.lp_rows.specs.Points.{point_made};
 
 use crate::lists::Nums;
+use outcomes::Memory;
 use std::alloc::Global;
 use std::marker::Model;
 
@@ -33,7 +34,7 @@ impl Model for Point {
 pub enum PointError {
     /// The denominator is below 1.
     Over,
-    /// Memory was wanted and not had.
+    /// Memory ran out.
     Memory,
 }
 
@@ -45,12 +46,20 @@ impl Point {
         if over < 1 {
             return Err(PointError::Over);
         }
-        let Ok(items) = Vec::from_slice(alloc, nums) else {
+        let Ok(nums) = Nums::from_slice(alloc, nums) else {
             return Err(PointError::Memory);
         };
+        Ok(Point { over, nums })
+    }
+
+    /// A copy of this point.
+    pub fn copy(&self, alloc: Global) -> Result<Point, Memory>
+        ensures { IfOk result (λ point. point ≡ self.now) }
+    {
+        let nums = self.nums.copy(alloc)?;
         Ok(Point {
-            over,
-            nums: Nums::from_vec(items),
+            over: self.over,
+            nums,
         })
     }
 
@@ -67,5 +76,12 @@ impl Point {
         ensures { result.now ≡ self.now.nums }
     {
         self.nums.as_slice()
+    }
+
+    /// The numerators, with no copy.
+    pub fn into_nums(self) -> Nums
+        ensures { result ≡ self.nums }
+    {
+        self.nums
     }
 }

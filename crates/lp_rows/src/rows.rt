@@ -49,7 +49,7 @@ pub enum RowError {
     Zero,
     /// A coefficient or the right side passes 10^15 in magnitude.
     Coefficient,
-    /// Memory was wanted and not had.
+    /// Memory ran out.
     Memory,
 }
 

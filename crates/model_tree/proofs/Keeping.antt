@@ -20,7 +20,7 @@ use Rattle.model_tree.specs.declared.errors.BuildError.TheVariants.{Place, NameT
 use Rattle.model_tree.specs.declared.parts.Totals.{Totals}
 use Rattle.model_tree.specs.Builders.{IsCounted}
 use Rattle.model_tree.specs.Bounds.{is_bound, AreEndsLowest}
-use Rattle.model_tree.specs.Building.{OpenBlock, OpenDisjunction, BuildingValue, is_at_root, is_taken, refusal_of_var, var_outcome, are_ids_below}
+use Rattle.model_tree.specs.Building.{OpenBlock, OpenDisjunction, BuildingValue, is_at_root, is_taken, refusal_of_var, var_outcome}
 use Rattle.model_tree.specs.Sound.{is_empty, are_rows_below, are_props_sound, is_filled, is_block_sound, are_disjunctions_sound, are_disjuncts_sound, is_goal_sound}
 use Rattle.model_tree.specs.Names.{has_name, is_name, are_names}
 use Rattle.model_tree.specs.PropLimits.{has_small_numbers, is_shallow_prop, has_fair_lists, is_prop_sound}
@@ -279,26 +279,26 @@ var_keeps_whole name kind bound mark b next r a o w =
 
 -- a row
 
-ids_put : {A : Type 0} (b : Bool) (n : ℕ) (t u : ℕ × A) (us : List (ℕ × A)) → are_ids_below n (t ∷ u ∷ us) ≡ true
-    → are_ids_below n (u ∷ insert_term t us) ≡ true → are_ids_below n (if b then t ∷ u ∷ us else u ∷ insert_term t us) ≡ true
+ids_put : {A : Type 0} (b : Bool) (n : ℕ) (t u : ℕ × A) (us : List (ℕ × A)) → ids_below n (t ∷ u ∷ us) ≡ true
+    → ids_below n (u ∷ insert_term t us) ≡ true → ids_below n (if b then t ∷ u ∷ us else u ∷ insert_term t us) ≡ true
 ids_put true n t u us h k = h
 ids_put false n t u us h k = k
 
-ids_inserted : {A : Type 0} (n : ℕ) (t : ℕ × A) (ts : List (ℕ × A)) → are_ids_below n (t ∷ ts) ≡ true → are_ids_below n (insert_term t ts) ≡ true
+ids_inserted : {A : Type 0} (n : ℕ) (t : ℕ × A) (ts : List (ℕ × A)) → ids_below n (t ∷ ts) ≡ true → ids_below n (insert_term t ts) ≡ true
 ids_inserted n t [] h = h
 ids_inserted n t (u ∷ us) h =
-    let p = both (nat_lt t.0 n) (are_ids_below n (u ∷ us)) h in
-    let q = both (nat_lt u.0 n) (are_ids_below n us) p.1 in
+    let p = both (nat_lt t.0 n) (ids_below n (u ∷ us)) h in
+    let q = both (nat_lt u.0 n) (ids_below n us) p.1 in
     ids_put (nat_lt t.0 u.0) n t u us h
-    (and_true (nat_lt u.0 n) (are_ids_below n (insert_term t us)) q.0 (ids_inserted n t us (and_true (nat_lt t.0 n) (are_ids_below n us) p.0 q.1)))
+    (and_true (nat_lt u.0 n) (ids_below n (insert_term t us)) q.0 (ids_inserted n t us (and_true (nat_lt t.0 n) (ids_below n us) p.0 q.1)))
 
-pub ids_sorted : {A : Type 0} (n : ℕ) (placed ts : List (ℕ × A)) → are_ids_below n placed ≡ true → are_ids_below n ts ≡ true → are_ids_below n (sorted_among placed ts) ≡ true
+pub ids_sorted : {A : Type 0} (n : ℕ) (placed ts : List (ℕ × A)) → ids_below n placed ≡ true → ids_below n ts ≡ true → ids_below n (sorted_among placed ts) ≡ true
 ids_sorted n placed [] p q = p
 ids_sorted n placed (t ∷ ts) p q =
-    let h = both (nat_lt t.0 n) (are_ids_below n ts) q in
-    ids_sorted n (insert_term t placed) ts (ids_inserted n t placed (and_true (nat_lt t.0 n) (are_ids_below n placed) h.0 p)) h.1
+    let h = both (nat_lt t.0 n) (ids_below n ts) q in
+    ids_sorted n (insert_term t placed) ts (ids_inserted n t placed (and_true (nat_lt t.0 n) (ids_below n placed) h.0 p)) h.1
 
-pub ids_scaled : (n k : ℕ) (ts : List (ℕ × Fraction)) → ids_below n (scaled_terms k ts) ≡ are_ids_below n ts
+pub ids_scaled : (n k : ℕ) (ts : List (ℕ × Fraction)) → ids_below n (scaled_terms k ts) ≡ ids_below n ts
 ids_scaled n k [] = refl
 ids_scaled n k (t ∷ ts) = ap (λ b. nat_lt t.0 n && b) (ids_scaled n k ts)
 

@@ -19,7 +19,8 @@ use Rattle.model_tree.specs.declared.errors.BuildError.{BuildError}
 use Rattle.model_tree.specs.declared.errors.BuildError.TheVariants.{Number, NameTwice, NameUnknown, Memory}
 use Rattle.model_tree.specs.declared.scaling.Stored.{Stored}
 use Rattle.model_tree.specs.Bounds.{has_small_parts}
-use Rattle.model_tree.specs.Building.{are_ids_below, are_numbers, refusal_of_terms}
+use Rattle.model_tree.specs.Building.{are_numbers, refusal_of_terms}
+use Rattle.lp_rows.specs.Holding.{ids_below}
 use Rattle.model_tree.specs.Scaling.{is_multiple, all_divide, least_multiple_from, product_of, least_scale, are_positive, denominators, scale_of, scaled, scaled_terms, has_id_twice, insert_term, sorted_among, sorted_terms, stored_terms}
 use Rattle.model_tree.proofs.Keeping.{both, and_true}
 
@@ -303,14 +304,14 @@ with_number d ds h k = and_true (nat_lt 0 d) (are_positive ds) (above d h) k
     above x q = grind (arith, nat_tests)
 
 -- numbers that are refused are so by this cause
-pub refused_number : (n : ℕ) (ts : List (ℕ × Fraction)) (f : Fraction) → has_id_twice ts ≡ false → are_ids_below n ts ≡ true
+pub refused_number : (n : ℕ) (ts : List (ℕ × Fraction)) (f : Fraction) → has_id_twice ts ≡ false → ids_below n ts ≡ true
     → are_numbers (scale_of ts f) ts f ≡ false → refusal_of_terms n ts f None ≡ Some Number
 refused_number n ts f a b c = rw (a, b, c)
 
 -- what stands below the causes of terms decides where none of them holds, and only there
 pub passes_below : {A : Type 0} (n : ℕ) (ts : List (ℕ × Fraction)) (f : Fraction) (below : Option BuildError) (v w : A)
     → Ok w ≡ refused_or (refusal_of_terms n ts f None) v → refusal_of_terms n ts f below ≡ below
-passes_below n ts f below v w h = by_tests (has_id_twice ts) (not (are_ids_below n ts)) (not (are_numbers (scale_of ts f) ts f)) h
+passes_below n ts f below v w h = by_tests (has_id_twice ts) (not (ids_below n ts)) (not (are_numbers (scale_of ts f) ts f)) h
   where
     by_tests : (a b c : Bool) → Ok w ≡ refused_or (refuse_if a NameTwice (refuse_if b NameUnknown (refuse_if c Number None))) v
         → refuse_if a NameTwice (refuse_if b NameUnknown (refuse_if c Number below)) ≡ below
@@ -321,7 +322,7 @@ passes_below n ts f below v w h = by_tests (has_id_twice ts) (not (are_ids_below
 
 pub refused_above : {A : Type 0} (n : ℕ) (ts : List (ℕ × Fraction)) (f : Fraction) (below : Option BuildError) (v : A) (e : BuildError)
     → Err e ≡ refused_or (refusal_of_terms n ts f None) v → refusal_of_terms n ts f below ≡ Some e
-refused_above n ts f below v e h = by_tests (has_id_twice ts) (not (are_ids_below n ts)) (not (are_numbers (scale_of ts f) ts f)) h
+refused_above n ts f below v e h = by_tests (has_id_twice ts) (not (ids_below n ts)) (not (are_numbers (scale_of ts f) ts f)) h
   where
     by_tests : (a b c : Bool) → Err e ≡ refused_or (refuse_if a NameTwice (refuse_if b NameUnknown (refuse_if c Number None))) v
         → refuse_if a NameTwice (refuse_if b NameUnknown (refuse_if c Number below)) ≡ Some e

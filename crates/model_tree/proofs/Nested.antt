@@ -16,7 +16,7 @@ use Rattle.model_tree.specs.declared.errors.BuildError.TheVariants.{Place, NameT
 use Rattle.model_tree.specs.declared.parts.Totals.{Totals}
 use Rattle.model_tree.specs.declared.tree.Mode.{Mode}
 use Rattle.model_tree.specs.Bounds.{has_small_parts}
-use Rattle.model_tree.specs.Building.{OpenBlock, OpenDisjunction, BuildingValue, empty_block, is_at_root, is_taken, are_ids_below, are_numbers, refusal_of_terms, refusal_of_row, row_outcome, stored_row, rows_so_far, rows_in_open, rows_in_opened, rows_around}
+use Rattle.model_tree.specs.Building.{OpenBlock, OpenDisjunction, BuildingValue, empty_block, is_at_root, is_taken, are_numbers, refusal_of_terms, refusal_of_row, row_outcome, stored_row, rows_so_far, rows_in_open, rows_in_opened, rows_around}
 use Rattle.model_tree.specs.Sound.{is_empty, are_rows_below, are_props_sound, is_filled, is_block_sound, are_disjunctions_sound, are_disjuncts_sound, are_rows_stored, is_stored, are_disjunctions_stored, are_disjuncts_stored, IsScaleLeast}
 use Rattle.model_tree.specs.Builders.{IsCounted}
 use Rattle.model_tree.specs.Names.{has_name, is_name, are_names}
@@ -170,8 +170,8 @@ row_keeps_whole terms rel right mark b w =
     let limit : Option BuildError = refuse_if (nat_le 1000 (rows_so_far b)) Limit None in
     let k = scale_of terms right in
     let p = refuses_not (is_some b.opened) Place (refusal_of_terms (length b.vars) terms right limit) h in
-    let q = refuses_not (has_id_twice terms) NameTwice (refuse_if (not (are_ids_below (length b.vars) terms)) NameUnknown (refuse_if (not (are_numbers k terms right)) Number limit)) p.1 in
-    let r = refuses_not (not (are_ids_below (length b.vars) terms)) NameUnknown (refuse_if (not (are_numbers k terms right)) Number limit) q.1 in
+    let q = refuses_not (has_id_twice terms) NameTwice (refuse_if (not (ids_below (length b.vars) terms)) NameUnknown (refuse_if (not (are_numbers k terms right)) Number limit)) p.1 in
+    let r = refuses_not (not (ids_below (length b.vars) terms)) NameUnknown (refuse_if (not (are_numbers k terms right)) Number limit) q.1 in
     let s = refuses_not (not (are_numbers k terms right)) Number limit r.1 in
     let t = refuses_not (nat_le 1000 (rows_so_far b)) Limit None s.1 in
     let v = numbers_parts (list_all (λ u. has_small_parts u.1) terms) (has_small_parts right) (has_zero (stored_terms k terms)) (are_storable (stored_terms k terms)) (is_storable (scaled k right)) (not_false (are_numbers k terms right) s.0) in
@@ -179,7 +179,7 @@ row_keeps_whole terms rel right mark b w =
     let kept : is_none (row_refusal row.terms row.right) ≡ true = none_is (row_refusal row.terms row.right) (row_refuses_not row.terms row.right a v.0 v.1 v.2) in
     let z = both (are_rows_stored b.inner.rows) (are_disjunctions_stored (disjunctions b.inner.closed)) w.stored in
     let ids : ids_below (length b.vars) row.terms ≡ true =
-    ids_scaled (length b.vars) k (sorted_terms terms) ∙ ids_sorted (length b.vars) [] terms refl (not_false (are_ids_below (length b.vars) terms) r.0) in
+    ids_scaled (length b.vars) k (sorted_terms terms) ∙ ids_sorted (length b.vars) [] terms refl (not_false (ids_below (length b.vars) terms) r.0) in
     let e : length (b.inner.rows ++ (row, mark) ∷ []) ≡ length b.inner.rows + 1 = length-append b.inner.rows ((row, mark) ∷ []) in
     let m = below_limit 1000 (rows_so_far b) t.0 in
     let x = block_parts (are_rows_below (length b.vars) b.inner.rows) (are_props_sound (length b.booleans) b.inner.props) (are_disjunctions_sound (length b.vars) (length b.booleans) (disjunctions b.inner.closed)) w.inner in
@@ -224,11 +224,11 @@ goal_keeps_whole sense terms constant mark b next answer acts lowest w =
     let g = stored_goal sense terms constant mark in
     accepted_keeps IsWhole (AreLowest terms constant) Memory b (refusal_of_goal terms constant b) tt (record b { goal = Some g }) answer next acts lowest w (λ h l.
     let p = refuses_not (not (is_at_root b) || is_some b.goal) Place (refusal_of_terms n terms constant below) h in
-    let q = refuses_not (has_id_twice terms) NameTwice (refuse_if (not (are_ids_below n terms)) NameUnknown (refuse_if (not (are_numbers k terms constant)) Number below)) p.1 in
-    let r = refuses_not (not (are_ids_below n terms)) NameUnknown (refuse_if (not (are_numbers k terms constant)) Number below) q.1 in
+    let q = refuses_not (has_id_twice terms) NameTwice (refuse_if (not (ids_below n terms)) NameUnknown (refuse_if (not (are_numbers k terms constant)) Number below)) p.1 in
+    let r = refuses_not (not (ids_below n terms)) NameUnknown (refuse_if (not (are_numbers k terms constant)) Number below) q.1 in
     let s = refuses_not (not (are_numbers k terms constant)) Number below r.1 in
     let t = refuses_not (not (is_storable (pos k))) Number None s.1 in
-    let ids : ids_below n g.terms ≡ true = ids_scaled n k (sorted_terms terms) ∙ ids_sorted n [] terms refl (not_false (are_ids_below n terms) r.0) in
+    let ids : ids_below n g.terms ≡ true = ids_scaled n k (sorted_terms terms) ∙ ids_sorted n [] terms refl (not_false (ids_below n terms) r.0) in
     let v = numbers_parts (list_all (λ u. has_small_parts u.1) terms) (has_small_parts constant) (has_zero (stored_terms k terms)) (are_storable (stored_terms k terms)) (is_storable (scaled k constant)) (not_false (are_numbers k terms constant) s.0) in
     let a : ascends_from 0 g.terms ≡ true = ascends_scaled k 0 (sorted_terms terms) ∙ ascends-sorted [] terms refl (twice_none terms ∙ q.0) in
     let row : is_none (row_refusal g.terms g.constant) ≡ true = none_is (row_refusal g.terms g.constant) (row_refuses_not g.terms g.constant a v.0 v.1 v.2) in

@@ -7,10 +7,10 @@ use Rattle.std.proofs.lemmas.Nat.Gcd.{dvd_antisymm}
 use Rattle.std.proofs.Math.Nat.{dvd-mul_left, dvd-mul_right, mul-div_cancel', mul-div_cancel_left}
 use Rattle.std.specs.Int.{◌∣◌}
 use Rattle.std.specs.List.{list_all}
-use Rattle.fractions.specs.Fraction.{Fraction}
+use Rattle.fractions.specs.Fraction.{Fraction, IsLowest}
 use Rattle.fractions.proofs.Scaled.{scaled_gcd}
 use Rattle.lp_rows.specs.declared.kinds.Sense.{Sense}
-use Rattle.model_tree.specs.Bounds.{has_small_parts, IsInLowest}
+use Rattle.model_tree.specs.Bounds.{has_small_parts}
 use Rattle.model_tree.specs.Nesting.{stored_goal}
 use Rattle.model_tree.specs.Scaling.{is_multiple, all_divide, divides_all, are_positive, denominators, scale_of, scaled, scaled_terms, stored_terms, insert_term, sorted_among, sorted_terms, AreLowest}
 use Rattle.model_tree.specs.Sound.{IsScaleLeast}
@@ -50,7 +50,7 @@ factor_divides : (p q d m c e : ℕ) → 0 < d → d * m ≡ q * c → d * e ≡
 factor_divides p q d m c e h f g =
     cancel d (m * p) (q * e) h (omega (arith, ap (λ x. p * x) f, ap (λ x. q * x) g))
 
-part_divides : (d k : ℕ) (f : Fraction) → IsInLowest f → 0 < d → d ∣ k → unsigned_abs f.den ∣ k → d ∣ unsigned_abs (scaled k f) → unsigned_abs f.den ∣ k / d
+part_divides : (d k : ℕ) (f : Fraction) → IsLowest f → 0 < d → d ∣ k → unsigned_abs f.den ∣ k → d ∣ unsigned_abs (scaled k f) → unsigned_abs f.den ∣ k / d
 part_divides d k f l h a b z =
     let p = unsigned_abs f.num in
     let q = unsigned_abs f.den in
@@ -64,7 +64,7 @@ part_divides d k f l h a b z =
     one_times : (x : ℕ) → x * 1 ≡ x
     one_times x = omega arith
 
-terms_divide : (d k : ℕ) (ts : List (ℕ × Fraction)) → All (λ t. IsInLowest t.1) ts → 0 < d → d ∣ k → all_divide (denominators ts) k ≡ true
+terms_divide : (d k : ℕ) (ts : List (ℕ × Fraction)) → All (λ t. IsLowest t.1) ts → 0 < d → d ∣ k → all_divide (denominators ts) k ≡ true
     → list_all (λ t. is_multiple d (unsigned_abs (scaled k t.1))) ts ≡ true → all_divide (denominators ts) (k / d) ≡ true
 terms_divide d k [] l h a b z = refl
 terms_divide d k (t ∷ ts) l h a b z =
@@ -72,13 +72,13 @@ terms_divide d k (t ∷ ts) l h a b z =
     let p = both (is_multiple q k) (all_divide (denominators ts) k) b in
     let r = both (is_multiple d (unsigned_abs (scaled k t.1))) (list_all (λ u. is_multiple d (unsigned_abs (scaled k u.1))) ts) z in
     and_true (is_multiple q (k / d)) (all_divide (denominators ts) (k / d))
-    (is_divided q (k / d) (part_divides d k t.1 (All-head (λ u. IsInLowest u.1) t ts l) h a (divides q k p.0) (divides d (unsigned_abs (scaled k t.1)) r.0)))
-    (terms_divide d k ts (All-tail (λ u. IsInLowest u.1) t ts l) h a p.1 r.1)
+    (is_divided q (k / d) (part_divides d k t.1 (All-head (λ u. IsLowest u.1) t ts l) h a (divides q k p.0) (divides d (unsigned_abs (scaled k t.1)) r.0)))
+    (terms_divide d k ts (All-tail (λ u. IsLowest u.1) t ts l) h a p.1 r.1)
 
-pub positive_dens : (ts : List (ℕ × Fraction)) → All (λ t. IsInLowest t.1) ts → are_positive (denominators ts) ≡ true
+pub positive_dens : (ts : List (ℕ × Fraction)) → All (λ t. IsLowest t.1) ts → are_positive (denominators ts) ≡ true
 positive_dens [] l = refl
 positive_dens (t ∷ ts) l =
-    with_number (unsigned_abs t.1.den) (denominators ts) (abs_positive t.1.den (All-head (λ u. IsInLowest u.1) t ts l).positive) (positive_dens ts (All-tail (λ u. IsInLowest u.1) t ts l))
+    with_number (unsigned_abs t.1.den) (denominators ts) (abs_positive t.1.den (All-head (λ u. IsLowest u.1) t ts l).positive) (positive_dens ts (All-tail (λ u. IsLowest u.1) t ts l))
 
 only_one : (d m : ℕ) → 1 ≤ m → 0 < d → d * m ≤ m → d ≡ 1
 only_one zero m a b h = absurd (omega (arith, b))
@@ -131,25 +131,25 @@ and_rest false b c h k = cc
 -- what stands of the terms from a place on, and of all
 pub record AreTested (rest ts : List (ℕ × Fraction)) : Type 0 where
   pub small : list_all (λ t. has_small_parts t.1) rest ≡ list_all (λ t. has_small_parts t.1) ts
-  pub lowest : All (λ t. IsInLowest t.1) rest → All (λ t. IsInLowest t.1) ts
+  pub lowest : All (λ t. IsLowest t.1) rest → All (λ t. IsLowest t.1) ts
   pub positive : are_positive (denominators rest) ≡ are_positive (denominators ts)
 
-pub one_tested : (ts : List (ℕ × Fraction)) (i : ℕ) (t : ℕ × Fraction) → i < length ts → t ≡ get_or ts i t → has_small_parts t.1 ≡ true → IsInLowest t.1
+pub one_tested : (ts : List (ℕ × Fraction)) (i : ℕ) (t : ℕ × Fraction) → i < length ts → t ≡ get_or ts i t → has_small_parts t.1 ≡ true → IsLowest t.1
     → AreTested (drop i ts) ts → AreTested (drop (i + 1) ts) ts
 one_tested ts i t h e s l a =
     let d : drop i ts ≡ t ∷ drop (i + 1) ts = rw (add-one, drop-cons ts i t, ← e) in
     let b = subst (λ x. AreTested x ts) d a in
     record {
       small = and_rest (has_small_parts t.1) (list_all (λ u. has_small_parts u.1) (drop (i + 1) ts)) (list_all (λ u. has_small_parts u.1) ts) s b.small;
-      lowest = λ k. b.lowest (All-cons (λ u. IsInLowest u.1) t (drop (i + 1) ts) l k);
+      lowest = λ k. b.lowest (All-cons (λ u. IsLowest u.1) t (drop (i + 1) ts) l k);
       positive = and_rest (nat_lt 0 (unsigned_abs t.1.den)) (are_positive (denominators (drop (i + 1) ts))) (are_positive (denominators ts)) (above (unsigned_abs t.1.den) (abs_positive t.1.den l.positive)) b.positive;
     }
   where
     above : (x : ℕ) → 1 ≤ x → nat_lt 0 x ≡ true
     above x q = grind (arith, nat_tests)
 
-pub all_tested : (ts : List (ℕ × Fraction)) (i : ℕ) → length ts ≤ i → AreTested (drop i ts) ts → All (λ t. IsInLowest t.1) ts
-all_tested ts i h a = a.lowest (subst (λ x. All (λ t. IsInLowest t.1) x) (sym (rest_end ts i h)) (All-nil (λ t. IsInLowest t.1)))
+pub all_tested : (ts : List (ℕ × Fraction)) (i : ℕ) → length ts ≤ i → AreTested (drop i ts) ts → All (λ t. IsLowest t.1) ts
+all_tested ts i h a = a.lowest (subst (λ x. All (λ t. IsLowest t.1) x) (sym (rest_end ts i h)) (All-nil (λ t. IsLowest t.1)))
   where
     rest_end : (us : List (ℕ × Fraction)) (k : ℕ) → length us ≤ k → drop k us ≡ []
     rest_end [] zero l = refl

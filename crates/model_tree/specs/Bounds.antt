@@ -26,13 +26,9 @@ are_crossed (Some low) (Some high) = int_lt (high.num *ℤ low.den) (low.num *�
 abbrev pub is_bound : Bound → Bool
 is_bound bound = is_end_small bound.low && is_end_small bound.high && not (are_crossed bound.low bound.high)
 
--- the fraction is in lowest terms
-abbrev pub IsInLowest : Fraction → Type 0
-IsInLowest f = IsLowest f.num f.den
-
 -- an end, where there is one, is in lowest terms
 abbrev pub IsEndLowest : Option Fraction → Type 0
-IsEndLowest end = ForSome end IsInLowest
+IsEndLowest end = ForSome end IsLowest
 
 -- both ends of the bounds are in lowest terms
 abbrev pub AreEndsLowest : Bound → Type 0

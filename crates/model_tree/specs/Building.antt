@@ -5,6 +5,7 @@ use Rattle.fractions.specs.Fraction.{Fraction}
 use Rattle.outcomes.specs.Calls.{refuse_if, refused_or, unless}
 use Rattle.lp_rows.specs.declared.kinds.Kind.{Kind}
 use Rattle.lp_rows.specs.declared.kinds.Rel.{Rel}
+use Rattle.lp_rows.specs.Holding.{ids_below}
 use Rattle.lp_rows.specs.Rows.{RowValue, is_storable, has_zero, are_storable}
 use Rattle.propositions.specs.Tree.{PropTree}
 use Rattle.model_tree.specs.declared.bounds.Bound.{Bound}
@@ -74,10 +75,6 @@ abbrev pub var_outcome : List ℕ → Kind → Bound → ℕ → BuildingValue �
 var_outcome name kind bound mark b =
     unless (refusal_of_var name bound b) b (length b.vars) (record b { vars = b.vars ++ (name, kind, bound, mark) ∷ [] })
 
--- each id is below n
-abbrev pub are_ids_below : {A : Type 0} → ℕ → List (ℕ × A) → Bool
-are_ids_below n ts = list_all (λ t. nat_lt t.0 n) ts
-
 -- The numbers of a row or goal may be stored: those given have small parts, and of those that scaling by k makes no
 -- coefficient is 0 and all are small.
 abbrev pub are_numbers : ℕ → List (ℕ × Fraction) → Fraction → Bool
@@ -107,7 +104,7 @@ rows_so_far b = rows_in_open b.inner + rows_in_opened b.opened + rows_around b.o
 abbrev pub refusal_of_terms : ℕ → List (ℕ × Fraction) → Fraction → Option BuildError → Option BuildError
 refusal_of_terms n terms number below =
     refuse_if (has_id_twice terms) NameTwice
-    (refuse_if (not (are_ids_below n terms)) NameUnknown
+    (refuse_if (not (ids_below n terms)) NameUnknown
     (refuse_if (not (are_numbers (scale_of terms number) terms number)) Number below))
 
 -- why a row is refused

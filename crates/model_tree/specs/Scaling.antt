@@ -1,8 +1,7 @@
 -- Rows and goals of fractions, multiplied by the least positive whole number that makes them whole.
 use Rattle.std.specs.Prelude.{ℕ, zero, suc, ◌*◌, ◌/◌, ◌%◌, ℤ, pos, ◌*ℤ◌, Bool, false, ◌||◌, List, [], ◌∷◌, map, All, unsigned_abs, if◌then◌else◌, nat_lt, ◌==◌}
 use Rattle.std.specs.List.{list_all, list_any}
-use Rattle.fractions.specs.Fraction.{Fraction}
-use Rattle.model_tree.specs.Bounds.{IsInLowest}
+use Rattle.fractions.specs.Fraction.{Fraction, IsLowest}
 
 -- the whole number d divides k
 abbrev pub is_multiple : ℕ → ℕ → Bool
@@ -40,7 +39,7 @@ are_positive ds = list_all (λ d. nat_lt 0 d) ds
 
 -- the terms and the number are in lowest terms
 abbrev pub AreLowest : List (ℕ × Fraction) → Fraction → Type 0
-AreLowest ts number = All (λ t. IsInLowest t.1) ts × IsInLowest number
+AreLowest ts number = All (λ t. IsLowest t.1) ts × IsLowest number
 
 -- the least positive whole number that makes the terms and this number whole
 abbrev pub scale_of : List (ℕ × Fraction) → Fraction → ℕ

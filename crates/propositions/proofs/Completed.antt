@@ -7,6 +7,7 @@ use Rattle.gdp_tables.specs.declared.tri.Tri.TheVariants.{No, Yes, Open}
 use Rattle.gdp_tables.specs.Completions.{Completes, are_same}
 use Rattle.gdp_tables.specs.Readings.{not_of, same_of}
 use Rattle.gdp_tables.proofs.Exact.{not_completes, and_completes, or_completes, same_completes}
+use Rattle.propositions.proofs.Layers.{count_more}
 use Rattle.propositions.specs.Tree.{PairConnective, implies, equivalent, xor, ListConnective, all_of, some_of, exactly, at_least, at_most, PropTree, atom, negated, paired, listed, PropTrees, no_props, prop}
 use Rattle.propositions.specs.Truth.{are_all_true, is_some_true, true_count, pair_truth, list_truth, truth_of, truths_of}
 use Rattle.propositions.specs.Reading.{and_all, or_all, is_yes, is_open, yes_count, open_count, at_least_of, at_most_of, exactly_of, pair_tri, list_tri, tri_of, tris_of}
@@ -48,7 +49,10 @@ count_between (b ∷ bs) [] h = absurd h
 count_between (b ∷ bs) (t ∷ ts) h =
     let here = adds_between b t h.0 in
     let below = count_between bs ts h.1 in
-    (omega (arith, here.0, below.0), omega (arith, here.1, below.1))
+    let yes = count_more is_yes t ts in
+    let opened = count_more is_open t ts in
+    let truths = count_more (λ x. x) b bs in
+    (omega (arith, here.0, below.0, yes, truths), omega (arith, here.1, below.1, yes, opened, truths))
 
 pub tests_complete : (is_sure is_past truth : Bool) → (is_sure ≡ true → truth ≡ true) → (is_past ≡ true → truth ≡ false)
     → Completes truth (cond is_sure Yes (cond is_past No Open))

@@ -1,7 +1,9 @@
 -- Lists of propositions, and the arguments that they stand for.
-use Rattle.std.proofs.Common.{◌≡◌, ℕ, ◌+◌, ◌<◌, suc, List, [], ◌∷◌, map, length, get_or, drop, nat_eq, Bool, true, false, ◌≤◌, refl, ap, sym, ◌∙◌, Vec, Global, add-one, arith, drop-cons}
+use Rattle.std.proofs.Common.{◌≡◌, ℕ, ◌+◌, ◌<◌, suc, List, [], ◌∷◌, map, length, get_or, drop, nat_eq, Bool, true, false, cond, ◌≤◌, refl, ap, sym, ◌∙◌, Vec, Global, add-one, arith, drop-cons}
 use Rattle.std.proofs.lemmas.Bool.Decides.{nat_tests}
 use Rattle.std.specs.Int.{from_bool}
+use Rattle.std.specs.List.{count_by}
+use Rattle.std.proofs.lemmas.List.Sums.{sum_by-cons}
 use Rattle.gdp_tables.specs.declared.tri.Tri.{Tri}
 use Rattle.gdp_tables.specs.declared.tri.Tri.TheVariants.{No, Yes, Open}
 use Rattle.propositions.specs.Reading.{is_yes, is_open}
@@ -26,6 +28,14 @@ trees_at ps i p within e = rw (add-one, drop-cons ps i p, ← e) refl
 pub adds_one_at_most : (b : Bool) → from_bool b ≤ 1
 adds_one_at_most true = omega arith
 adds_one_at_most false = omega arith
+
+-- how many pass a test, one more item in front
+pub count_more : {X : Type 0} (test : X → Bool) (x : X) (xs : List X) → count_by test (x ∷ xs) ≡ from_bool (test x) + count_by test xs
+count_more test x xs = sum_by-cons (λ y. cond (test y) 1 0) x xs ∙ ap (λ n. n + count_by test xs) (as_byte (test x))
+  where
+    as_byte : (b : Bool) → cond b 1 0 ≡ from_bool b
+    as_byte true = refl
+    as_byte false = refl
 
 -- what the first argument adds is added
 pub added : (count r s x y sum : ℕ) → r ≡ s → x ≡ s + y → count + x ≡ sum → (count + r) + y ≡ sum

@@ -7,6 +7,7 @@ use Rattle.gdp_tables.specs.declared.tri.Tri.TheVariants.{No, Yes, Open}
 use Rattle.gdp_tables.specs.Completions.{known, are_same}
 use Rattle.gdp_tables.specs.Readings.{not_of, and_of, or_of, same_of}
 use Rattle.propositions.proofs.Completed.{at_most_is, exactly_is}
+use Rattle.propositions.proofs.Layers.{count_more}
 use Rattle.propositions.specs.Tree.{PairConnective, implies, equivalent, xor, ListConnective, all_of, some_of, exactly, at_least, at_most, PropTree, atom, negated, paired, listed, PropTrees, no_props, prop}
 use Rattle.propositions.specs.Truth.{are_all_true, is_some_true, true_count, pair_truth, list_truth, truth_of, truths_of}
 use Rattle.propositions.specs.Reading.{and_all, or_all, is_yes, is_open, yes_count, open_count, at_least_of, at_most_of, exactly_of, pair_tri, list_tri, tri_of, tris_of}
@@ -56,11 +57,11 @@ known_open true = refl
 
 pub yes_known : (bs : List Bool) → yes_count (map known bs) ≡ true_count bs
 yes_known [] = refl
-yes_known (b ∷ bs) = omega (arith, known_yes b, yes_known bs)
+yes_known (b ∷ bs) = omega (arith, known_yes b, yes_known bs, count_more is_yes (known b) (map known bs), count_more (λ x. x) b bs)
 
 pub none_open : (bs : List Bool) → open_count (map known bs) ≡ 0
 none_open [] = refl
-none_open (b ∷ bs) = omega (arith, known_open b, none_open bs)
+none_open (b ∷ bs) = omega (arith, known_open b, none_open bs, count_more is_open (known b) (map known bs))
 
 pub tests_known : (is_sure is_past : Bool) → (is_sure ≡ false → is_past ≡ true) → cond is_sure Yes (cond is_past No Open) ≡ known is_sure
 tests_known true is_past f = refl

@@ -1,6 +1,6 @@
 -- What is known of a proposition's truth where some Booleans are open.
 use Rattle.std.specs.Prelude.{ℕ, ◌+◌, Bool, true, false, List, [], ◌∷◌, nat_le, nat_lt, if◌then◌else◌}
-use Rattle.std.specs.Int.{from_bool}
+use Rattle.std.specs.List.{count_by}
 use Rattle.gdp_tables.specs.declared.tri.Tri.{Tri}
 use Rattle.gdp_tables.specs.declared.tri.Tri.TheVariants.{No, Yes, Open}
 use Rattle.gdp_tables.specs.Readings.{not_of, and_of, or_of, same_of}
@@ -30,13 +30,11 @@ is_open Open = true
 
 -- how many are yes
 abbrev pub yes_count : List Tri → ℕ
-yes_count [] = 0
-yes_count (t ∷ ts) = from_bool (is_yes t) + yes_count ts
+yes_count ts = count_by is_yes ts
 
 -- how many are open
 abbrev pub open_count : List Tri → ℕ
-open_count [] = 0
-open_count (t ∷ ts) = from_bool (is_open t) + open_count ts
+open_count ts = count_by is_open ts
 
 -- whether at least n are true, where so many are yes and so many undecided
 abbrev pub at_least_of : ℕ → ℕ → ℕ → Tri

@@ -1,23 +1,20 @@
 -- When a proposition is true.
-use Rattle.std.specs.Prelude.{ℕ, ◌+◌, Bool, true, false, not, ◌&&◌, ◌||◌, List, [], ◌∷◌, nat_eq, nat_le, nat_lt}
-use Rattle.std.specs.Int.{from_bool}
+use Rattle.std.specs.Prelude.{ℕ, Bool, true, not, ◌&&◌, ◌||◌, List, [], ◌∷◌, nat_eq, nat_le, nat_lt}
+use Rattle.std.specs.List.{list_all, list_any, count_by}
 use Rattle.gdp_tables.specs.Completions.{are_same}
 use Rattle.propositions.specs.Tree.{PairConnective, implies, equivalent, xor, ListConnective, all_of, some_of, exactly, at_least, at_most, PropTree, atom, negated, paired, listed, PropTrees, no_props, prop}
 
 -- all are true
 abbrev pub are_all_true : List Bool → Bool
-are_all_true [] = true
-are_all_true (b ∷ bs) = b && are_all_true bs
+are_all_true bs = list_all (λ b. b) bs
 
 -- some is true
 abbrev pub is_some_true : List Bool → Bool
-is_some_true [] = false
-is_some_true (b ∷ bs) = b || is_some_true bs
+is_some_true bs = list_any (λ b. b) bs
 
--- how many are true: 1 of each true one, and 0 of each other
+-- how many are true
 abbrev pub true_count : List Bool → ℕ
-true_count [] = 0
-true_count (b ∷ bs) = from_bool b + true_count bs
+true_count bs = count_by (λ b. b) bs
 
 -- the truth of a connective of two, by the truth of both
 abbrev pub pair_truth : PairConnective → Bool → Bool → Bool

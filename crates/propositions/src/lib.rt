@@ -12,7 +12,7 @@ pub mod tree;
 pub mod truths;
 
 pub use copying::copy;
-pub use reading::{at_least_of, exactly_of, tri};
+pub use reading::{Counts, at_least_of, exactly_of, is_open, is_yes, tri};
 pub use sizes::{depth, greatest_number, has_empty_list, most_arguments, node_count};
 pub use tree::Prop;
 pub use truths::{has_ids_below, truth};

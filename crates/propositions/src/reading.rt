@@ -38,11 +38,13 @@ pub fn tri(prop: &Prop, truths: &[Tri]) -> Tri
     read(prop, truths)
 }
 
-// How many of some arguments are known to be true, and of how many nothing is known.
-#[derive(Clone, Copy)]
-struct Counts {
-    yes: usize,
-    undecided: usize,
+/// How many of some readings are Yes, and how many are Open.
+#[derive(Clone, Copy, Debug, PartialEq, Eq)]
+pub struct Counts {
+    /// How many are known to be true.
+    pub yes: usize,
+    /// Of how many nothing is known.
+    pub undecided: usize,
 }
 
 // The reading of the proposition.
@@ -141,15 +143,15 @@ fn count_known(props: &[Prop], truths: &[Tri]) -> Counts
     Counts { yes, undecided }
 }
 
-// Whether it is known to be true.
-fn is_yes(reading: Tri) -> bool
+/// Whether it is known to be true.
+pub fn is_yes(reading: Tri) -> bool
     ensures { result ≡ sure reading }
 {
     matches!(reading, Tri::Yes)
 }
 
-// Whether nothing is known.
-fn is_open(reading: Tri) -> bool
+/// Whether nothing is known.
+pub fn is_open(reading: Tri) -> bool
     ensures { result ≡ unsure reading }
 {
     matches!(reading, Tri::Open)

@@ -1,7 +1,7 @@
 use Rattle.std.proofs.Common.{◌≡◌, ◌++◌, true, length, drop}
 use Rattle.std.specs.List.{list_all}
 use Rattle.lp_rows.specs.Holding.{ids_below}
-use Rattle.lp_frame.specs.Force.{is_narrow}
+use Rattle.fractions.specs.Width.{is_narrow}
 use Rattle.lp_frame.specs.Split.{split_terms}
 use Rattle.lp_frame.proofs.form.split_terms.Given as goal
 

@@ -1,8 +1,8 @@
-use Rattle.std.proofs.Common.{arith, slice_index_or, ap, sym, ◌∙◌}
+use Rattle.std.proofs.Common.{◌+◌, arith, slice_index_or, drop, ap, sym, ◌∙◌}
 use Rattle.std.specs.Int.{from_bool}
 use Rattle.std.proofs.lemmas.Grind.{common_steps}
 use Rattle.gdp_tables.specs.declared.tri.Tri.TheVariants.{No}
-use Rattle.propositions.proofs.Layers.{trees_at, added, same_counts, no_more_than_one, exactly_tree, at_least_tree, at_most_tree}
+use Rattle.propositions.proofs.Layers.{trees_at, count_more, added, same_counts, no_more_than_one, exactly_tree, at_least_tree, at_most_tree}
 use Rattle.propositions.specs.Reading.{tri_of, tris_of, list_tri, yes_count, open_count, is_yes, is_open, exactly_of, at_least_of, at_most_of}
 use Rattle.propositions.specs.Tree.{exactly, at_least, at_most}
 use Rattle.propositions.specs.View.{prop_tree, prop_trees}
@@ -11,6 +11,8 @@ use Rattle.propositions.proofs.reading.+reading.Goals as goal
 pub count_known-loop-prop-preserved : goal.count_known-loop-prop-preserved
 count_known-loop-prop-preserved t c =
     let at = trees_at c.args.props.now c.loop-prop.prop-index c.prop-item.result c.loop-prop-test.true c.prop-item.is in
+    let here = tri_of (prop_tree c.prop-item.result) (λ k. slice_index_or c.args.truths.now k No) in
+    let rest = tris_of (prop_trees (drop (c.loop-prop.prop-index + 1) c.args.props.now)) (λ k. slice_index_or c.args.truths.now k No) in
     record {
       range = grind (arith, common_steps);
       few =
@@ -18,11 +20,11 @@ count_known-loop-prop-preserved t c =
           (c.from-undecided.ensures ∙ ap from_bool c.is_open.ensures) c.loop-prop.invariant.few;
       yes =
           added _ _ _ _ _ _ (c.from-yes.ensures ∙ ap from_bool (c.is_yes.ensures ∙ ap is_yes c.read-reading.ensures))
-          (ap (λ ps. yes_count (tris_of ps (λ k. slice_index_or c.args.truths.now k No))) at)
+          (ap (λ ps. yes_count (tris_of ps (λ k. slice_index_or c.args.truths.now k No))) at ∙ count_more is_yes here rest)
           c.loop-prop.invariant.yes;
       undecided =
           added _ _ _ _ _ _ (c.from-undecided.ensures ∙ ap from_bool (c.is_open.ensures ∙ ap is_open c.read-reading.ensures))
-          (ap (λ ps. open_count (tris_of ps (λ k. slice_index_or c.args.truths.now k No))) at)
+          (ap (λ ps. open_count (tris_of ps (λ k. slice_index_or c.args.truths.now k No))) at ∙ count_more is_open here rest)
           c.loop-prop.invariant.undecided;
     }
 
