@@ -1,10 +1,10 @@
 pub mod Arithmetic
 pub mod Division
+pub mod GcdLemmas
 pub mod LowestLemmas
 pub mod Multiples
 pub mod Order
 pub mod Outcomes
 pub mod Reduction
 pub mod Rounding
-pub mod Scaled
 pub mod Widths

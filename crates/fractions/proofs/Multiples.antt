@@ -8,7 +8,7 @@ use Rattle.std.proofs.lemmas.Int.{ints, unsigned_abs-mul}
 use Rattle.int_linear.proofs.Ring.{mul_pos, pos_cancel}
 use Rattle.fractions.specs.Divisors.{IsLcm}
 use Rattle.fractions.proofs.Reduction.{gcd_positive}
-use Rattle.fractions.proofs.Scaled.{scaled_gcd}
+use Rattle.fractions.proofs.GcdLemmas.{scaled_gcd}
 
 pub lcm_is : (a b d q : ℤ) → b ≢ pos 0 → IsGcd (unsigned_abs b) (unsigned_abs a) (unsigned_abs d) → q *ℤ d ≡ b → IsLcm (unsigned_abs a) (unsigned_abs b) (unsigned_abs (a *ℤ q))
 lcm_is a b d q h gcd e =

@@ -7,7 +7,7 @@ use Rattle.std.proofs.lemmas.Nat.Gcd.{le_of_dvd, dvd_antisymm}
 use Rattle.std.proofs.lemmas.Int.{ints, unsigned_abs-mul}
 use Rattle.int_linear.proofs.Ring.{products, pos_cancel, mul_cancel, neg_mul}
 use Rattle.fractions.specs.Fraction.{Fraction, IsLowest, IsReduced}
-use Rattle.fractions.proofs.Scaled.{scaled_gcd}
+use Rattle.fractions.proofs.GcdLemmas.{scaled_gcd}
 
 pub size_positive : (a : ℤ) → a ≢ pos 0 → 0 < unsigned_abs a
 size_positive (pos zero) h = absurd (h refl)

@@ -1,2 +1,2 @@
-pub mod Exact
-pub mod Single
+pub mod ExactLemmas
+pub mod KeywordsLemmas

@@ -1,4 +1,4 @@
--- Divisors of rows. A row has a divisor that every divisor of its multiples divides, by Euclid's steps; so no law of Gauss or Bezout is wanted.
+-- Divisors of rows. A row has a divisor that every divisor of its multiples divides, by Euclid's steps; so no law of Gauss or Bezout is needed.
 use Rattle.std.proofs.Common.{◌≡◌, ◌<◌, ◌≤◌, ◌+◌, ◌*◌, ◌/◌, ◌%◌, ℕ, zero, suc, ℤ, pos, negsuc, ◌*ℤ◌, ◌<ℤ◌, arith, ap, sym, ◌∙◌, subst, inl, inr}
 use Rattle.std.proofs.Math.Nat.{dvd-add, dvd-add_iff_right, dvd-mul_right, dvd-mul_right_of_dvd, mul-dvd-mul_left, dvd_of_mul-dvd-mul_left, one-dvd, one-mul, mul-one, div-add-mod, mod-lt}
 use Rattle.std.proofs.lemmas.Nat.Gcd.{dvd_refl, dvd-zero, dvd_trans, dvd_antisymm}

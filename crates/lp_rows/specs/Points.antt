@@ -13,6 +13,6 @@ pub record PointValue : Type 0 where
 abbrev pub point_refusal : ℤ → Option PointError
 point_refusal over = refuse_if (int_lt over (pos 1)) Over None
 
--- what `Point::make` answers where memory is had
+-- what `Point::make` answers if memory suffices
 abbrev pub point_made : ℤ → List ℤ → Result PointValue PointError
 point_made over nums = refused_or (point_refusal over) (record { over = over; nums = nums })

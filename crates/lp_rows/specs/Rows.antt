@@ -40,6 +40,6 @@ row_refusal terms right =
     (refuse_if (has_zero terms) Zero
     (refuse_if (not (are_storable terms && is_storable right)) Coefficient None))
 
--- what `Row::make` answers where memory is had
+-- what `Row::make` answers if memory suffices
 abbrev pub row_made : List (ℕ × ℤ) → Rel → ℤ → Result RowValue RowError
 row_made terms rel right = refused_or (row_refusal terms right) (record { terms = terms; rel = rel; right = right })

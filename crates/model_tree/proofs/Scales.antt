@@ -8,7 +8,7 @@ use Rattle.std.proofs.Math.Nat.{dvd-mul_left, dvd-mul_right, mul-div_cancel', mu
 use Rattle.std.specs.Int.{◌∣◌}
 use Rattle.std.specs.List.{list_all}
 use Rattle.fractions.specs.Fraction.{Fraction, IsLowest}
-use Rattle.fractions.proofs.Scaled.{scaled_gcd}
+use Rattle.fractions.proofs.GcdLemmas.{scaled_gcd}
 use Rattle.lp_rows.specs.declared.kinds.Sense.{Sense}
 use Rattle.model_tree.specs.Bounds.{has_small_parts}
 use Rattle.model_tree.specs.Nesting.{stored_goal}

@@ -1,7 +1,7 @@
--- Words of contracts: want of memory as the one free answer, ordered refusals, and calls that change a value.
+-- Words of contracts: ordered refusals, calls that change a value, and running out of memory, the one answer left open.
 use Rattle.std.specs.Prelude.{◌≡◌, Option, Some, None, Result, Ok, Err, ◌⊎◌, Bool, if◌then◌else◌}
 
--- the call answers this, or wants memory
+-- the call answers this, or runs out of memory
 abbrev pub OrMemory : {A E : Type 0} → E → Result A E → Result A E → Type 0
 OrMemory memory result answer = (result ≡ answer) ⊎ (result ≡ Err memory)
 
@@ -19,6 +19,6 @@ abbrev pub unless : {S A E : Type 0} → Option E → S → A → S → Result A
 unless (Some refusal) old answer next = (Err refusal, old)
 unless None old answer next = (Ok answer, next)
 
--- A call that changes a value answers and leaves what the outcome says, or wants memory and changes nothing.
+-- A call that changes a value answers and leaves what the outcome says, or runs out of memory and changes nothing.
 abbrev pub Acts : {S A E : Type 0} → E → S → Result A E × S → Result A E → S → Type 0
 Acts memory old outcome result new = ((result ≡ outcome.0) × (new ≡ outcome.1)) ⊎ ((result ≡ Err memory) × (new ≡ old))

@@ -1,8 +1,8 @@
-//! Want of memory.
+//! Running out of memory.
 
 use std::alloc::{AllocError, AllocFailed};
 
-/// Memory was wanted and not had.
+/// Memory ran out.
 #[derive(Clone, Copy, Debug, PartialEq, Eq)]
 pub struct Memory;
 

@@ -1,4 +1,4 @@
-pub mod Completed
+pub mod CompletionLemmas
 pub mod Connectives
+pub mod KnownLemmas
 pub mod Layers
-pub mod Settled

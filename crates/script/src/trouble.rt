@@ -9,7 +9,7 @@ use std::io;
 pub enum Trouble {
     /// A line is none of a script.
     Line,
-    /// Memory was wanted and not had, or the answer could not be written.
+    /// Memory ran out, or the answer could not be written.
     Host,
 }
 

@@ -1,4 +1,4 @@
-use Rattle.gdp_tables.proofs.Exact.{not_exact}
+use Rattle.gdp_tables.proofs.ExactLemmas.{not_exact}
 use Rattle.gdp_tables.proofs.laws.not_is_exact.Goals as goal
 
 pub returns : goal.returns

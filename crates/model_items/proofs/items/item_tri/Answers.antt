@@ -1,7 +1,7 @@
 use Rattle.std.proofs.Common.{slice_index_or, ◌∙◌}
 use Rattle.gdp_tables.specs.declared.tri.Tri.TheVariants.{No}
-use Rattle.propositions.proofs.Completed.{prop_completes}
-use Rattle.propositions.proofs.Settled.{prop_known}
+use Rattle.propositions.proofs.CompletionLemmas.{prop_completes}
+use Rattle.propositions.proofs.KnownLemmas.{prop_known}
 use Rattle.model_items.specs.Items.{condition_of}
 use Rattle.model_tree.specs.Values.{model_tree}
 use Rattle.model_items.proofs.items.item_tri.Goals as goal

@@ -1,7 +1,7 @@
 use Rattle.std.proofs.Common.{slice_index_or, ◌∙◌}
 use Rattle.gdp_tables.specs.declared.tri.Tri.TheVariants.{No}
-use Rattle.propositions.proofs.Completed.{prop_completes}
-use Rattle.propositions.proofs.Settled.{prop_known}
+use Rattle.propositions.proofs.CompletionLemmas.{prop_completes}
+use Rattle.propositions.proofs.KnownLemmas.{prop_known}
 use Rattle.propositions.specs.View.{prop_tree}
 use Rattle.propositions.proofs.reading.tri.Goals as goal
 

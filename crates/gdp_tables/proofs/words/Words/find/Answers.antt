@@ -1,5 +1,5 @@
 use Rattle.gdp_tables.specs.Keywords.{keywords_of}
-use Rattle.gdp_tables.proofs.Single.{one_at_most}
+use Rattle.gdp_tables.proofs.KeywordsLemmas.{one_at_most}
 use Rattle.gdp_tables.proofs.words.Words.find.Goals as goal
 
 pub returns-clause-one : goal.returns-clause-one

@@ -6,7 +6,7 @@ use Rattle.gdp_tables.specs.declared.tri.Tri.{Tri}
 use Rattle.gdp_tables.specs.declared.tri.Tri.TheVariants.{No, Yes, Open}
 use Rattle.gdp_tables.specs.Completions.{known, are_same}
 use Rattle.gdp_tables.specs.Readings.{not_of, and_of, or_of, same_of}
-use Rattle.propositions.proofs.Completed.{at_most_is, exactly_is}
+use Rattle.propositions.proofs.CompletionLemmas.{at_most_is, exactly_is}
 use Rattle.propositions.proofs.Layers.{count_more}
 use Rattle.propositions.specs.Tree.{PairConnective, implies, equivalent, xor, ListConnective, all_of, some_of, exactly, at_least, at_most, PropTree, atom, negated, paired, listed, PropTrees, no_props, prop}
 use Rattle.propositions.specs.Truth.{are_all_true, is_some_true, true_count, pair_truth, list_truth, truth_of, truths_of}
