@@ -435,14 +435,16 @@ def index_page():
 
 
 def below_each():
-    """For each crate those that it stands on, all the way down."""
-    below = {}
-    for line in (ROOT / "crates.txt").read_text().splitlines():
-        crate, colon, others = line.split("#")[0].partition(":")
-        if colon:
-            direct = [other for other in others.split() if other in below]
-            below[crate.strip()] = {*direct, *(name for other in direct for name in below[other])}
-    return below
+    """For each crate those of this repository that it stands on, all the way down."""
+    lines = [line.split("#")[0].partition(":") for line in (ROOT / "crates.txt").read_text().splitlines()]
+    direct = {crate.strip(): set(others.split()) for crate, colon, others in lines if colon}
+
+    @functools.cache
+    def below(crate):
+        near = direct[crate] & direct.keys()
+        return near.union(*map(below, near))
+
+    return {crate: below(crate) for crate in direct}
 
 
 def reach_table():

@@ -1,5 +1,5 @@
 -- An index through an exchange.
-use Rattle.std.proofs.Common.{◌≡◌, ◌≢◌, ◌<◌, ◌≤◌, ◌+◌, ◌*◌, ℕ, ℤ, pos, ◌*ℤ◌, ◌-ℤ◌, ◌<ℤ◌, ◌==◌, Bool, true, false, cond, List, length, arith, refl, ap, sym, ◌∙◌, subst, inl, inr}
+use Rattle.std.proofs.Common.{◌≡◌, ◌<◌, ◌≤◌, ◌*◌, ℕ, ℤ, pos, ◌*ℤ◌, ◌-ℤ◌, ◌<ℤ◌, ◌==◌, Bool, true, false, cond, List, length, arith, refl, ap, sym, ◌∙◌, subst, inl, inr}
 use Rattle.std.proofs.lemmas.Bool.{cases_eq}
 use Rattle.std.proofs.lemmas.Int.{ints}
 use Rattle.std.proofs.lemmas.Nat.{row_fits}
@@ -9,7 +9,6 @@ use Rattle.simplex_rows.specs.Dropped.{without}
 use Rattle.simplex_rows.specs.Steps.{IsCleared}
 use Rattle.simplex_rows.specs.Index.{bit_of, HasColumns, IsIndexOf, IsIndexAfter}
 use Rattle.simplex_rows.specs.Tableau.{IsExchange}
-use Rattle.simplex_rows.proofs.RowSteps.{sign_cancel}
 use Rattle.simplex_rows.proofs.Columns.{zero_or}
 use Rattle.exact_simplex.specs.Table.{kept}
 

@@ -1,5 +1,5 @@
 -- A named exchange has a pivot row, so it is narrow or wide and never both, and wide at one place.
-use Rattle.std.proofs.Common.{◌≡◌, ◌≢◌, ◌<◌, ◌+◌, ◌*◌, ◌/◌, ◌%◌, ◌==◌, ℕ, zero, suc, ℤ, pos, negsuc, ◌*ℤ◌, ◌<ℤ◌, neg_ℤ, Bool, true, false, nat_lt, arith, refl, ap, sym, ◌∙◌, subst, inl, inr}
+use Rattle.std.proofs.Common.{◌≡◌, ◌≢◌, ◌<◌, ◌+◌, ◌*◌, ◌/◌, ◌%◌, ◌==◌, ℕ, zero, suc, ℤ, pos, negsuc, ◌*ℤ◌, ◌<ℤ◌, neg_ℤ, Bool, true, false, nat_lt, arith, refl, ap, sym, ◌∙◌, subst}
 use Rattle.std.proofs.Math.Nat.{div-add-mod}
 use Rattle.std.proofs.lemmas.Bool.{eqb-true}
 use Rattle.std.proofs.lemmas.Bool.Decides.{nat_tests}
@@ -8,13 +8,13 @@ use Rattle.std.proofs.lemmas.Int.{ints}
 use Rattle.std.specs.Int.{◌∣◌}
 use Rattle.std.specs.Prelude.{unsigned_abs}
 use Rattle.int_linear.proofs.Divisors.{has_gcd, every_row, primitive_divided, primitive_scaled}
-use Rattle.int_linear.proofs.Ring.{products, pos_cancel, zero_mul, mul_zero}
+use Rattle.int_linear.proofs.Ring.{products, pos_cancel, mul_zero}
 use Rattle.simplex_rows.specs.Steps.{IsPivotRow}
 use Rattle.simplex_rows.specs.Width.{IsFactors}
 use Rattle.simplex_rows.specs.Matrix.{AreNarrow, IsFirstWide}
 use Rattle.simplex_rows.proofs.Dropped.{without_else}
 use Rattle.exact_simplex.specs.declared.moves.Move.TheVariants.{Exchange}
-use Rattle.exact_simplex.specs.Table.{Table, IsSound, kept, entry, width, artificial, right}
+use Rattle.exact_simplex.specs.Table.{Table, IsSound, kept, entry, width, artificial}
 use Rattle.exact_simplex.specs.Bland.{bland_move, row_of}
 use Rattle.exact_simplex.specs.Exchange.{counted, IsNarrowMove, IsWideMove}
 use Rattle.exact_simplex.proofs.Named.{IsNamed, named}

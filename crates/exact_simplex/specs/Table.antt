@@ -1,14 +1,15 @@
--- The tableau as data. Its columns are, in this order: the structural ones, a slack for each row, the artificial,
--- the right side and the goal's scale. Its rows are one for each row of the standard form, and last the goal row.
-use Rattle.std.specs.Prelude.{◌≡◌, ◌<◌, ◌≤◌, ◌+◌, ◌/◌, ◌==◌, ℕ, ℤ, pos, negsuc, ◌<ℤ◌, ◌≤ℤ◌, Bool, true, List, length, slice_index_or, int_lt, if◌then◌else◌}
+-- The tableau as data. Its columns are, in this order: the structural ones, a slack for each row,
+-- the artificial, the right side and the goal's scale. Its rows are one for each row of the
+-- standard form, and last the goal row.
+use Rattle.std.specs.Prelude.{◌≡◌, ◌<◌, ◌≤◌, ◌+◌, ◌==◌, ℕ, ℤ, pos, negsuc, ◌<ℤ◌, ◌≤ℤ◌, Bool, List, length, slice_index_or, int_lt, if◌then◌else◌}
 use Rattle.int_linear.specs.Sums.{matrix}
 use Rattle.simplex_rows.specs.Dropped.{all_without}
-use Rattle.simplex_rows.specs.Matrix.{IsRectangle, IsColumnOf, AreNarrowRows}
-use Rattle.simplex_rows.specs.Index.{IsIndexOf}
+use Rattle.simplex_rows.specs.Matrix.{IsRectangle}
 use Rattle.simplex_rows.specs.Tableau.{IsCanonical, IsTableau}
 
--- columns is the number of structural columns, height that of the rows without the goal row; basis names the basic
--- column of each row, the goal row's being the scale; dropped says that the artificial has left
+-- columns is the number of structural columns, height that of the rows without the goal row; basis
+-- names the basic column of each row, the goal row's being the scale; dropped says that the
+-- artificial has left
 pub record Table : Type 0 where
   pub columns : ℕ
   pub height : ℕ
@@ -57,14 +58,17 @@ in_force t equation = kept t.dropped (artificial t) equation
 
 -- t is the tableau of its basis for these equations
 abbrev pub IsTableauFor : (ℕ → ℕ → ℤ) → Table → Type 0
-IsTableauFor equation t = IsTableau (width t) (t.height + 1) (in_force t equation) (unit t) (basic t) (entry t)
+IsTableauFor equation t =
+    IsTableau (width t) (t.height + 1) (in_force t equation) (unit t) (basic t) (entry t)
 
--- Before the first move a row's entry in the artificial's column is -1 where its right side is negative, else 0.
+-- Before the first move a row's entry in the artificial's column is -1 where its right side is
+-- negative, else 0.
 pub record IsFresh (t : Table) : Type 0 where
-  pub each : (i : ℕ) → i < t.height → entry t i (artificial t) ≡ (if int_lt (right_side t i) (pos 0) then negsuc 0 else pos 0)
+  pub each : (i : ℕ) → i < t.height
+      → entry t i (artificial t) ≡ (if int_lt (right_side t i) (pos 0) then negsuc 0 else pos 0)
 
--- what is true of every tableau, whatever its equations: its size, that it is canonical, and that a right side is
--- negative only before the first move
+-- what is true of every tableau, whatever its equations: its size, that it is canonical, and that a
+-- right side is negative only before the first move
 pub record IsSound (t : Table) : Type 0 where
   pub columns_bound : t.columns ≤ 4000
   pub height_bound : t.height ≤ 4000
@@ -79,19 +83,3 @@ pub record IsSound (t : Table) : Type 0 where
 -- no right side is negative
 pub record IsFeasible (t : Table) : Type 0 where
   pub each : (i : ℕ) → i < t.height → pos 0 ≤ℤ right_side t i
-
--- how many words an index has for each column
-abbrev pub words : Table → ℕ
-words t = t.height / 64 + 1
-
--- the same, with narrow numbers, two spare rows of the tableau's width, an index of its entries, a column that is kept,
--- if kept names one, and whether a move was made, after which no right side is negative
-pub record IsSoundWith (t : Table) (spare written : List ℤ) (index : List ℕ) (column : List ℤ) (kept : ℕ) (started : Bool) : Type 0 where
-  pub sound : IsSound t
-  pub narrow : AreNarrowRows t.rows
-  pub spare_width : length spare ≡ width t
-  pub written_width : length written ≡ width t
-  pub indexed : IsIndexOf (width t) (t.height + 1) (words t) (entry t) index
-  pub column_size : length column ≡ t.height + 1
-  pub column_kept : kept < width t → IsColumnOf (t.height + 1) kept (entry t) column
-  pub feasible : started ≡ true → IsFeasible t

@@ -8,7 +8,8 @@ ghost use Rattle.simplex_rows.specs.Index.{IsIndexOf};
 ghost use Rattle.simplex_rows.specs.Matrix.{IsRectangle, IsColumnOf, AreNarrowRows};
 ghost use Rattle.simplex_rows.specs.Steps.{IsPivotRow};
 ghost use Rattle.simplex_rows.specs.Tableau.{IsExchange};
-ghost use Rattle.exact_simplex.specs.Exchange.{IsNarrowExchange, IsWideExchange, IsReady};
+ghost use Rattle.exact_simplex.specs.Exchange.{IsNarrowExchange, IsWideExchange};
+ghost use Rattle.exact_simplex.specs.steps.Ready.{IsReady};
 ghost use Rattle.exact_simplex.specs.Table.{kept};
 
 use simplex_rows::{Row, clear_rows, first_wide_entry};

@@ -6,7 +6,8 @@ ghost use Rattle.exact_simplex.specs.Table.{IsSound, IsTableauFor};
 ghost use Rattle.exact_simplex.specs.Bland.{bland_move};
 ghost use Rattle.exact_simplex.specs.Equations.{IsFirstTable, IsTableauOf};
 ghost use Rattle.exact_simplex.specs.Exchange.{IsExchanged, IsNarrowMove, IsWideAtEntry};
-ghost use Rattle.exact_simplex.specs.Run.{HasRun, HasEnded, HasTurned};
+ghost use Rattle.exact_simplex.specs.Run.{HasRun, HasEnded};
+ghost use Rattle.exact_simplex.specs.steps.Turns.{HasTurned};
 
 use crate::bland::{found_by, leaving_by, leaving_move};
 use crate::choosing::find_row;
@@ -40,7 +41,8 @@ pub struct Tableau {
 }
 
 impl Model for Tableau {
-    ghost use Rattle.exact_simplex.specs.Table.{Table, IsSoundWith};
+    ghost use Rattle.exact_simplex.specs.Table.{Table};
+    ghost use Rattle.exact_simplex.specs.steps.Kept.{IsSoundWith};
 
     ghost Value = { Table };
 
@@ -50,7 +52,7 @@ impl Model for Tableau {
 }
 
 impl Tableau {
-    /// The tableau of the slack basis of this standard form. It takes all memory that the moves will want.
+    /// The tableau of the slack basis of this standard form. It takes all memory that the moves will need.
     pub fn make(alloc: Global, standard: &StandardForm) -> Result<Tableau, Memory>
         ensures first { IfOk result (IsFirstTable standard.now) }
         ensures tableau { IfOk result (IsTableauOf standard.now) }
@@ -60,12 +62,12 @@ impl Tableau {
         let height = standard.rows().len();
         let rows = first_rows(alloc, standard.rows(), standard.goal(), columns)?;
         let basis = first_basis(alloc, columns, height)?;
-        let spare = Row::zeros(alloc, columns + height + 3)?;
-        let written = Row::zeros(alloc, columns + height + 3)?;
+        let width = columns + height + 3;
+        let spare = Row::zeros(alloc, width)?;
+        let written = Row::zeros(alloc, width)?;
         let column = Row::zeros(alloc, height + 1)?;
         narrow_rows(&rows);
         let words = height / 64 + 1;
-        let width = columns + height + 3;
         let mut index = vec![in alloc; 0u64; width * words]?;
         index_rows(&mut index, words, &rows, width);
         Ok(Tableau {
@@ -78,7 +80,7 @@ impl Tableau {
             written,
             index,
             column,
-            kept: columns + height + 3,
+            kept: width,
             started: false,
         })
     }
@@ -147,9 +149,9 @@ impl Tableau {
     {
         let enter = enter as usize;
         let leave = leave as usize;
-        let column = self.columns + self.height;
+        let artificial = self.columns + self.height;
         let row = find_row(&self.basis, self.height, leave);
-        let drops = leave == column;
+        let drops = leave == artificial;
         let words = self.height / 64 + 1;
         read_unless_kept(
             &self.rows,
@@ -159,7 +161,7 @@ impl Tableau {
             &self.index,
             words,
         );
-        self.kept = column + 3;
+        self.kept = artificial + 3;
         match exchange_rows(
             &mut self.rows,
             &mut self.spare,
@@ -167,7 +169,7 @@ impl Tableau {
             &self.column,
             row,
             enter,
-            column,
+            artificial,
             drops,
         ) {
             Err(place) => Err(WideAt::Entry {

@@ -1,4 +1,5 @@
--- What holds at a node of a search: columns, at-most rows and a goal; its points; and when it is bounded in size.
+-- What holds at a node of a search: columns, at-most rows and a goal; its points; and when it is
+-- bounded in size.
 use Rattle.std.specs.Prelude.{◌≡◌, ◌<◌, ◌^◌, ℕ, List, length, ℤ, pos, ◌*ℤ◌, ◌≤ℤ◌, Bool, ◌&&◌, nat_le, nat_lt, unsigned_abs, All}
 use Rattle.std.specs.List.{list_all}
 use Rattle.fractions.specs.Width.{is_narrow}
@@ -10,7 +11,8 @@ use Rattle.lp_frame.specs.declared.force.AtMost.{AtMost}
 use Rattle.lp_frame.specs.declared.force.Force.{Force}
 use Rattle.lp_frame.specs.Split.{place, sign_at}
 
--- the row holds at these numerators over this denominator: the sum of its terms is at most its bound
+-- the row holds at these numerators over this denominator: the sum of its terms is at most its
+-- bound
 abbrev pub HoldsAt : ℤ → (ℕ → ℤ) → AtMost → Type 0
 HoldsAt over numbers row = dot row.terms numbers ≤ℤ (row.bound *ℤ over)
 
@@ -19,7 +21,8 @@ pub record IsForcePoint (force : Force) (over : ℤ) (numbers : ℕ → ℤ) : T
   pub signs : (j : ℕ) → j < length force.cols → sign_at force.cols j ≡ Nonneg → pos 0 ≤ℤ numbers j
   pub rows : All (HoldsAt over numbers) force.rows
 
--- terms over n columns: ids ascend strictly and are below n, and no coefficient is the least of i128
+-- terms over n columns: ids ascend strictly and are below n, and no coefficient is the least of
+-- i128
 abbrev pub are_terms : ℕ → List (ℕ × ℤ) → Bool
 are_terms n ts = ascends_from 0 ts && ids_below n ts && list_all (λ t. is_narrow t.1) ts
 

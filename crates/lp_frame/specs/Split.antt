@@ -1,4 +1,5 @@
--- Splitting columns: a free column becomes a plus and a minus column side by side, the others stay one column.
+-- Splitting columns: a free column becomes a plus and a minus column side by side, the others stay
+-- one column.
 use Rattle.std.specs.Prelude.{◌≡◌, ◌≤◌, ◌<◌, ℕ, zero, suc, ◌+◌, List, [], ◌∷◌, ◌++◌, length, slice_index_or, ℤ, neg_ℤ, ◌-ℤ◌}
 use Rattle.int_linear.specs.Sums.{at}
 use Rattle.lp_rows.specs.declared.columns.Col.{Col}
@@ -30,9 +31,11 @@ split_term Nonneg k a = (k, a) ∷ []
 -- terms over the split columns
 abbrev pub split_terms : List Col → List (ℕ × ℤ) → List (ℕ × ℤ)
 split_terms cols [] = []
-split_terms cols (t ∷ ts) = split_term (sign_at cols t.0) (place cols t.0) t.1 ++ split_terms cols ts
+split_terms cols (t ∷ ts) =
+    split_term (sign_at cols t.0) (place cols t.0) t.1 ++ split_terms cols ts
 
--- the number of a column whose columns begin at place k: the plus column's less the minus column's where it is free
+-- the number of a column whose columns begin at place k: the plus column's less the minus column's
+-- where it is free
 abbrev pub joined : Sign → (ℕ → ℤ) → ℕ → ℤ
 joined Free numbers k = numbers k -ℤ numbers (k + 1)
 joined Nonneg numbers k = numbers k

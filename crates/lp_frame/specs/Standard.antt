@@ -39,25 +39,31 @@ standard_of force = record {
   goal = split_terms force.cols force.goal;
 }
 
--- split numbers of these numbers: they are a point of the form, give these numbers back, and have the same goal
+-- split numbers of these numbers: they are a point of the form, give these numbers back, and have
+-- the same goal
 pub record IsSplit (force : Force) (form : Standard) (over : ℤ) (numbers split : ℕ → ℤ) : Type 0 where
   pub point : IsStandardPoint form over split
   pub back : (j : ℕ) → j < length force.cols → lifted force.cols split j ≡ numbers j
   pub goal : dot form.goal split ≡ dot force.goal numbers
 
--- Force and form have the same points and the same goal, both ways: what a point of the form lifts to is a point of
--- the force with the same goal, and each point of the force is split by a point of the form.
+-- Force and form have the same points and the same goal, both ways: what a point of the form lifts
+-- to is a point of the force with the same goal, and each point of the force is split by a point of
+-- the form.
 pub record SamePoints (force : Force) (form : Standard) : Type 0 where
-  pub lifts : (over : ℤ) (split : ℕ → ℤ) → IsStandardPoint form over split → IsForcePoint force over (lifted force.cols split)
+  pub lifts : (over : ℤ) (split : ℕ → ℤ) → IsStandardPoint form over split
+      → IsForcePoint force over (lifted force.cols split)
   pub goal : (split : ℕ → ℤ) → dot form.goal split ≡ dot force.goal (lifted force.cols split)
-  pub splits : (over : ℤ) (numbers : ℕ → ℤ) → IsForcePoint force over numbers → (split : ℕ → ℤ) × IsSplit force form over numbers split
+  pub splits : (over : ℤ) (numbers : ℕ → ℤ) → IsForcePoint force over numbers
+      → (split : ℕ → ℤ) × IsSplit force form over numbers split
 
 -- the point that a point over the split columns lifts to
 pub record IsLifted (cols : List Col) (split point : PointValue) : Type 0 where
   pub over : point.over ≡ split.over
   pub nums : AreLifted cols split.nums point.nums
 
--- the lifted point is a point of the force wherever the split one is of the standard form, with the same goal
+-- the lifted point is a point of the force wherever the split one is of the standard form, with the
+-- same goal
 pub record KeepsPoint (force : Force) (split point : PointValue) : Type 0 where
-  pub stays : IsStandardPoint (standard_of force) split.over (at split.nums) → IsForcePoint force point.over (at point.nums)
+  pub stays : IsStandardPoint (standard_of force) split.over (at split.nums)
+      → IsForcePoint force point.over (at point.nums)
   pub goal : dot force.goal (at point.nums) ≡ dot (standard_of force).goal (at split.nums)

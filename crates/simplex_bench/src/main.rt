@@ -24,7 +24,7 @@ use std::{env, fs, io};
 /// The status where the words, the file or its text are refused.
 const REFUSED: u8 = 1;
 
-/// The status where memory is wanted.
+/// The status where memory runs out.
 const MEMORY: u8 = 2;
 
 /// The standard form in the file that the first word names, and how often it is to be replayed.

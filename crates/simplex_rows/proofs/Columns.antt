@@ -5,10 +5,12 @@ use Rattle.std.proofs.lemmas.Bool.{cases_eq, cases_lt}
 use Rattle.std.proofs.lemmas.Int.{ints}
 use Rattle.fractions.specs.Width.{IsNarrow}
 use Rattle.int_linear.specs.Sums.{at, matrix}
-use Rattle.simplex_rows.specs.Sparse.{entry_in, numbers, IsSparse, IsMerged, IsGathered, AreColumnsOf, AreListsOf}
+use Rattle.simplex_rows.specs.Sparse.{entry_in, numbers, IsSparse, AreColumnsOf, AreListsOf}
+use Rattle.simplex_rows.specs.loops.Merging.{IsMerged, IsGathered}
 use Rattle.simplex_rows.specs.Steps.{IsCleared}
 use Rattle.simplex_rows.specs.Width.{IsNarrowRow, IsNarrowStepOf}
-use Rattle.simplex_rows.specs.Matrix.{IsColumnOf, IsRowDone}
+use Rattle.simplex_rows.specs.Matrix.{IsColumnOf}
+use Rattle.simplex_rows.specs.loops.Rows.{IsRowDone}
 use Rattle.simplex_rows.proofs.FactorLemmas.{zero_from_abs}
 use Rattle.simplex_rows.proofs.Sparse.{columns_are, entry_found, entry_all, row_is, merged_narrow}
 

@@ -9,10 +9,12 @@ use Rattle.int_linear.specs.Sums.{at}
 use Rattle.fractions.specs.Width.{IsNarrow}
 use Rattle.int_linear.proofs.Ring.{mul_zero, pos_cancel}
 use Rattle.simplex_rows.specs.Dropped.{without}
-use Rattle.simplex_rows.specs.Steps.{IsCopy, IsPivotRow, IsPrimitivePart, HasEntry}
+use Rattle.simplex_rows.specs.Steps.{IsPivotRow}
+use Rattle.simplex_rows.specs.loops.Entries.{IsCopy, IsPrimitivePart, HasEntry}
 use Rattle.simplex_rows.specs.Width.{IsMarked, IsNarrowRow}
 use Rattle.simplex_rows.proofs.FactorLemmas.{narrow_list}
-use Rattle.simplex_rows.specs.Sparse.{entry_in, numbers, IsSparse, IsReached, IsFirstPassing, NonePasses}
+use Rattle.simplex_rows.specs.Sparse.{entry_in, numbers, IsSparse, IsFirstPassing, NonePasses}
+use Rattle.simplex_rows.specs.loops.Merging.{IsReached}
 use Rattle.simplex_rows.proofs.Dropped.{without_here, without_else}
 use Rattle.simplex_rows.proofs.Sparse.{entry_head, entry_tail, entry_absent, entry_found, entry_at, entry_all, numbers_length, numbers_at, row_width, row_is}
 

@@ -9,8 +9,9 @@ use Rattle.int_linear.proofs.Ring.{mul_zero}
 use Rattle.std.specs.Int.{◌∣◌}
 use Rattle.std.specs.Prelude.{unsigned_abs}
 use Rattle.fractions.specs.Width.{IsNarrow}
-use Rattle.simplex_rows.specs.Sparse.{entry_in, numbers, IsSparse, IsReached, IsMerged, AreColumnsOf, AreEntriesOf}
-use Rattle.simplex_rows.specs.Steps.{IsStepped, IsCopy, HasEntry, IsPrimitivePart}
+use Rattle.simplex_rows.specs.Sparse.{entry_in, numbers, IsSparse, AreColumnsOf, AreEntriesOf}
+use Rattle.simplex_rows.specs.loops.Merging.{IsReached, IsMerged}
+use Rattle.simplex_rows.specs.loops.Entries.{IsStepped, IsCopy, HasEntry, IsPrimitivePart}
 use Rattle.simplex_rows.specs.Width.{IsNarrowBy, IsNarrowRow, IsMarked}
 use Rattle.simplex_rows.proofs.FactorLemmas.{narrow_list, zero_from_abs}
 use Rattle.std.proofs.Math.Nat.{one-dvd}

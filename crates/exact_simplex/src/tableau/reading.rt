@@ -59,7 +59,8 @@ impl Tableau {
         ensures value { result ≡ entry self.now self.now.height (scale_column self.now) }
         ensures positive { pos 0 <ℤ result }
     {
-        number(&self.rows, self.height, self.columns + self.height + 2)
+        let scale = self.columns + self.height + 2;
+        number(&self.rows, self.height, scale)
     }
 
     /// The least value of the goal: the goal row's right side over its scale.
@@ -111,7 +112,8 @@ impl Tableau {
         ensures optimal { IfOk result (λ multipliers. (form : Standard) → IsTableauOf form self.now → bland_move self.now ≡ Move.Optimal → BoundsForm form (right_side self.now self.now.height) (entry self.now self.now.height (scale_column self.now)) multipliers) }
         ensures infeasible { IfOk result (λ multipliers. (form : Standard) → IsTableauOf form self.now → bland_move self.now ≡ Move.Infeasible → RefutesForm form multipliers) }
     {
-        let row = find_row(&self.basis, self.height, self.columns + self.height);
+        let artificial = self.columns + self.height;
+        let row = find_row(&self.basis, self.height, artificial);
         slack_entries(alloc, &self.rows[row], self.columns, self.height)
     }
 }

@@ -7,7 +7,7 @@ use Rattle.int_linear.specs.Sums.{at}
 use Rattle.simplex_rows.specs.Sparse.{AreListsOf}
 use Rattle.simplex_rows.specs.Steps.{IsCleared, KeepsEntry}
 use Rattle.simplex_rows.specs.Width.{IsNarrowStepOf}
-use Rattle.simplex_rows.specs.Matrix.{IsRowDone}
+use Rattle.simplex_rows.specs.loops.Rows.{IsRowDone}
 use Rattle.simplex_rows.proofs.FactorLemmas.{cleared_already}
 use Rattle.simplex_rows.proofs.Narrow.{narrow_range}
 use Rattle.simplex_rows.proofs.Columns.{done_all}

@@ -4,7 +4,7 @@ use Rattle.std.proofs.lemmas.Int.{to_z-of_z}
 use Rattle.std.proofs.lemmas.List.{get_or_default}
 use Rattle.fractions.specs.Width.{IsNarrow}
 use Rattle.int_linear.specs.Sums.{at, matrix}
-use Rattle.simplex_rows.specs.Sparse.{IsMerged, IsPut}
+use Rattle.simplex_rows.specs.loops.Merging.{IsMerged, IsPut}
 use Rattle.simplex_rows.proofs.Sparse.{sparse_size, merged_over, zero_step}
 use Rattle.simplex_rows.proofs.Merging.{merged_put}
 use Rattle.simplex_rows.proofs.Columns.{zero_or, gathered_by, gathered_narrow, gathered_value}

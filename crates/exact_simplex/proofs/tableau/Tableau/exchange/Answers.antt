@@ -7,9 +7,11 @@ use Rattle.simplex_rows.specs.Matrix.{IsRectangle, IsColumnOf}
 use Rattle.simplex_rows.specs.Tableau.{IsExchange}
 use Rattle.exact_simplex.specs.declared.moves.Move.TheVariants.{Exchange}
 use Rattle.exact_simplex.specs.Choice.{first_below}
-use Rattle.exact_simplex.specs.Table.{words, Table, right, entry, IsSound, IsSoundWith, IsTableauFor, width, artificial, kept}
+use Rattle.exact_simplex.specs.Table.{Table, right, entry, IsSound, IsTableauFor, width, artificial, kept}
+use Rattle.exact_simplex.specs.steps.Kept.{words, IsSoundWith}
 use Rattle.exact_simplex.specs.Bland.{bland_move, row_of}
-use Rattle.exact_simplex.specs.Exchange.{counted, IsReady, IsWideMove, IsNarrowMove, IsWideExchange, IsNarrowExchange, IsExchanged}
+use Rattle.exact_simplex.specs.Exchange.{counted, IsWideMove, IsNarrowMove, IsWideExchange, IsNarrowExchange, IsExchanged}
+use Rattle.exact_simplex.specs.steps.Ready.{IsReady}
 use Rattle.exact_simplex.proofs.Named.{IsNamed, named}
 use Rattle.exact_simplex.proofs.Sound.{feasible_after, ready, sound_after, tableau_after, changed, whole_written}
 use Rattle.exact_simplex.proofs.tableau.Tableau.exchange.Goals as goal

@@ -7,7 +7,7 @@ use Rattle.simplex_rows.specs.Index.{IsIndexOf}
 use Rattle.exact_simplex.proofs.Indexing.{columns_fit}
 use Rattle.exact_simplex.proofs.Sound.{whole_written}
 use Rattle.lp_frame.specs.declared.force.AtMost.{AtMost}
-use Rattle.exact_simplex.specs.Equations.{AreFirst, IsFirstBasis}
+use Rattle.exact_simplex.specs.steps.FirstRows.{AreFirst, IsFirstBasis}
 use Rattle.exact_simplex.proofs.FirstTable.{first_tableau, first_sound, made, made_first, made_shape}
 use Rattle.exact_simplex.proofs.tableau.Tableau.make.Goals as goal
 

@@ -3,8 +3,10 @@ use Rattle.std.specs.Int.{w128}
 use Rattle.std.proofs.lemmas.Int.{to_z-of_z}
 use Rattle.std.proofs.Math.Seq.{take-append_seam}
 use Rattle.int_linear.specs.Sums.{at}
-use Rattle.simplex_rows.specs.Sparse.{entry_in, IsSparse, IsMerged}
-use Rattle.simplex_rows.specs.Steps.{IsStepped, IsCleared, HasEntry, IsPrimitivePart}
+use Rattle.simplex_rows.specs.Sparse.{entry_in, IsSparse}
+use Rattle.simplex_rows.specs.loops.Merging.{IsMerged}
+use Rattle.simplex_rows.specs.Steps.{IsCleared}
+use Rattle.simplex_rows.specs.loops.Entries.{IsStepped, HasEntry, IsPrimitivePart}
 use Rattle.simplex_rows.specs.Width.{IsFactors, IsNarrowBy, IsNarrowRow}
 use Rattle.simplex_rows.proofs.FactorLemmas.{cleared_by, stepped_entry}
 use Rattle.simplex_rows.proofs.Sparse.{entry_first, merged_narrow, merged_stepped, part_sparse, part_of}

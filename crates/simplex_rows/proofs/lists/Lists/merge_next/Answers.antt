@@ -2,7 +2,8 @@ use Rattle.std.proofs.Common.{◌≡◌, ◌<◌, ◌+◌, ◌*ℤ◌, ◌-ℤ�
 use Rattle.std.specs.Int.{w128}
 use Rattle.std.proofs.lemmas.Int.{to_z-of_z}
 use Rattle.int_linear.specs.Sums.{at}
-use Rattle.simplex_rows.specs.Sparse.{entry_in, IsNextColumn, IsMerged, IsPut}
+use Rattle.simplex_rows.specs.Sparse.{entry_in}
+use Rattle.simplex_rows.specs.loops.Merging.{IsNextColumn, IsMerged, IsPut}
 use Rattle.simplex_rows.specs.Width.{IsNarrowStep}
 use Rattle.simplex_rows.proofs.Sparse.{sparse_size}
 use Rattle.simplex_rows.proofs.Merging.{IsAt, head_within, next_head, next_done, row_at, pivot_at, merged_next, merged_end, here_found, here_absent, past_found, past_absent}

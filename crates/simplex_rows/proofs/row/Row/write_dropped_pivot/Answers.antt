@@ -5,7 +5,8 @@ use Rattle.std.proofs.Math.Seq.{take-append_seam}
 use Rattle.int_linear.specs.Sums.{at}
 use Rattle.simplex_rows.specs.Dropped.{without}
 use Rattle.simplex_rows.specs.Sparse.{entry_in, numbers, IsSparse}
-use Rattle.simplex_rows.specs.Steps.{IsCopy, IsPivotRow, IsPrimitivePart, HasEntry}
+use Rattle.simplex_rows.specs.Steps.{IsPivotRow}
+use Rattle.simplex_rows.specs.loops.Entries.{IsCopy, IsPrimitivePart, HasEntry}
 use Rattle.simplex_rows.specs.Width.{IsNarrowRow, IsMarked}
 use Rattle.simplex_rows.proofs.FactorLemmas.{sign_of, sign_is_one}
 use Rattle.simplex_rows.proofs.Sparse.{numbers_length, row_width, row_is, sparse_size, copy_row, copy_sparse, copy_marked, entry_first, part_sparse, part_of, marked_by}

@@ -3,7 +3,7 @@ use Rattle.std.specs.Int.{w128}
 use Rattle.std.proofs.lemmas.Int.{to_z-of_z}
 use Rattle.int_linear.specs.Sums.{at}
 use Rattle.simplex_rows.specs.Sparse.{entry_in, numbers, IsSparse}
-use Rattle.simplex_rows.specs.Steps.{IsCopy}
+use Rattle.simplex_rows.specs.loops.Entries.{IsCopy}
 use Rattle.simplex_rows.proofs.FactorLemmas.{sign_of, sign_is_one, pivot_by}
 use Rattle.simplex_rows.proofs.Sparse.{numbers_length, row_width, row_is, sparse_size, copy_row, copy_sparse, copy_marked}
 use Rattle.simplex_rows.proofs.row.Row.write_pivot.Goals as goal
