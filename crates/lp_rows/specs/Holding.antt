@@ -10,16 +10,16 @@ use Rattle.lp_rows.specs.declared.kinds.Rel.TheVariants.{AtMost, AtLeast, Equal}
 use Rattle.lp_rows.specs.Points.{PointValue}
 use Rattle.lp_rows.specs.Rows.{RowValue}
 
--- the relation holds between x and y
-abbrev pub rel_holds : Rel → ℤ → ℤ → Bool
-rel_holds AtMost x y = int_le x y
-rel_holds AtLeast x y = int_le y x
-rel_holds Equal x y = int_le x y && int_le y x
+-- x stands in the relation to y
+abbrev pub stands : Rel → ℤ → ℤ → Bool
+stands AtMost x y = int_le x y
+stands AtLeast x y = int_le y x
+stands Equal x y = int_le x y && int_le y x
 
 -- The row holds at these numerators over this denominator: the sum of its terms stands in its relation to its
 -- right side times the denominator.
 abbrev pub holds_at : RowValue → ℤ → (ℕ → ℤ) → Bool
-holds_at row over numbers = rel_holds row.rel (dot row.terms numbers) (row.right *ℤ over)
+holds_at row over numbers = stands row.rel (dot row.terms numbers) (row.right *ℤ over)
 
 -- each term names one of the first n places
 abbrev pub ids_below : {A : Type 0} → ℕ → List (ℕ × A) → Bool

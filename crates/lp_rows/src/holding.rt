@@ -2,7 +2,7 @@
 
 ghost use Rattle.std.specs.Prelude.{◌≡◌, true, pos, Ok, Err, ◌+ℤ◌, ◌*ℤ◌, ◌&&◌, if◌then◌else◌, int_le, length};
 ghost use Rattle.int_linear.specs.Sums.{at as at_place};
-ghost use Rattle.lp_rows.specs.Holding.{ids_below, sum_or_wide, row_test, rel_holds};
+ghost use Rattle.lp_rows.specs.Holding.{ids_below, sum_or_wide, row_test, stands};
 
 use crate::kinds::Rel;
 use crate::points::Point;
@@ -52,7 +52,7 @@ pub fn are_ids_below<T>(terms: &[(u32, T)], count: usize) -> bool
 
 // Whether the sum stands in the relation to the right side.
 fn compare(rel: Rel, sum: i128, right: i128) -> bool
-    ensures { result ≡ rel_holds rel sum right }
+    ensures { result ≡ stands rel sum right }
 {
     match rel {
         Rel::AtMost => sum <= right,

@@ -13,7 +13,7 @@ use Rattle.lp_rows.specs.declared.kinds.Rel.{Rel}
 use Rattle.lp_rows.specs.declared.kinds.Rel.TheVariants.{AtLeast, AtMost, Equal}
 use Rattle.lp_rows.specs.Kinds.{is_of_kind, is_whole}
 use Rattle.int_linear.proofs.Ring.{neg_mul}
-use Rattle.lp_rows.specs.Holding.{rel_holds}
+use Rattle.lp_rows.specs.Holding.{stands}
 use Rattle.milps.specs.Milps.{col_takes, has_sign}
 
 -- ---- truth values
@@ -39,13 +39,13 @@ pub or_then : (a b c : Bool) → (a ≡ true → c ≡ true) → (b ≡ true →
 or_then true b c f g h = f refl
 or_then false b c f g h = g h
 
--- l rel_holds in the relation to r
+-- l stands in the relation to r
 abbrev pub Stands : Rel → ℤ → ℤ → Type 0
 Stands AtMost l r = l ≤ℤ r
 Stands AtLeast l r = r ≤ℤ l
 Stands Equal l r = l ≡ r
 
-pub stands_says : (rel : Rel) (l r : ℤ) → Stands rel l r ↔ (rel_holds rel l r ≡ true)
+pub stands_says : (rel : Rel) (l r : ℤ) → Stands rel l r ↔ (stands rel l r ≡ true)
 stands_says AtMost l r = (λ h. grind (arith, ints), λ h. grind (arith, ints))
 stands_says AtLeast l r = (λ h. grind (arith, ints), λ h. grind (arith, ints))
 stands_says Equal l r = (λ h. and_true (int_le l r) (int_le r l) (grind (arith, ints)) (grind (arith, ints)), λ h. let a = and_left (int_le l r) (int_le r l) h in let b = and_right (int_le l r) (int_le r l) h in grind (arith, ints))
