@@ -1,0 +1,9 @@
+pub mod Canonical
+pub mod Items
+pub mod Laws
+pub mod Programs
+pub mod Reading
+pub mod Scaling
+pub mod Spelling
+pub mod Taking
+pub mod Tokens
