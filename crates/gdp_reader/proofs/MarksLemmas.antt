@@ -1,6 +1,6 @@
 -- A mark for each variable that a sum has named so far.
 use Rattle.std.proofs.Common.{◌≡◌, ◌≢◌, ℕ, ◌+◌, ◌<◌, Bool, true, false, eqb, ◌||◌, List, [], ◌∷◌, ◌++◌, length, get_or, set, take, drop, map, replicate, Option, Some, None, refl, ap, sym, ◌∙◌, arith, ◌⊎◌, inl, inr}
-use Rattle.std.proofs.lemmas.List.{get_or-set_same, get_or-set_other, get_or-replicate, length-set, length-replicate, take_more, map-append, take-append-drop, get_or_default}
+use Rattle.std.proofs.lemmas.List.{drop_all, append-nil, take_all, get_or-set_same, get_or-set_other, get_or-replicate, length-set, length-replicate, take_more, map-append, take-append-drop, get_or_default}
 use Rattle.std.proofs.lemmas.Bool.{cases_eq}
 use Rattle.std.proofs.lemmas.Bool.Decides.{nat_tests}
 use Rattle.std.specs.Prelude.{IfSome}
@@ -117,3 +117,11 @@ pub marked_at : (n : ℕ) (seen next : List Bool) (vars : List VarValue) (sum : 
     → IsMarked n next (ids_before vars sum (i + 1)) × (has_twice (ids_before vars sum (i + 1)) ≡ false)
 marked_at n seen next vars sum i None m once bound within is unmarked same = unmarked_here n seen next vars sum i m once within is same
 marked_at n seen next vars sum i (Some id) m once bound within is unmarked same = marked_here n seen next vars sum i id false m once bound within is (sym unmarked) refl same
+
+-- the marks as they are written back, all of them
+pub written : (n len : ℕ) (seen next : List Bool) (ids now : List (Option ℕ)) → length seen ≡ len → IsMarked n seen ids → IsMarked n next now → IsMarked n (take len (next ++ drop (length next) seen)) now
+written n len seen next ids now whole before after =
+    let none : drop (length next) seen ≡ [] = drop_all (length next) seen (omega (arith, before.count, after.count)) in
+    let same : take len (next ++ drop (length next) seen) ≡ next =
+    ap (λ (rest : List Bool). take len (next ++ rest)) none ∙ ap (take len) (append-nil next) ∙ take_all len next (omega (arith, before.count, after.count, whole)) in
+    rw same after

@@ -39,13 +39,13 @@ known_more vars (t ∷ sum) s =
 -- a cause against a name is that it is unknown
 unknown_only : (vars : List VarValue) (sum : List Summand) (c : ReadCause) → known_terms vars sum ≡ Err c → c ≡ cause.NameUnknown
 unknown_only vars [] c e = absurd (cc e)
-unknown_only vars (s ∷ sum) c e = by (id_of vars s.name) (known_terms vars sum) refl e
+unknown_only vars (s ∷ sum) c e = by (unknown_only vars sum) (id_of vars s.name) (known_terms vars sum) refl e
   where
-    by : (o : Option ℕ) (r : Result (List (ℕ × Summand)) ReadCause) → known_terms vars sum ≡ r
+    by : ((d : ReadCause) → known_terms vars sum ≡ Err d → d ≡ cause.NameUnknown) → (o : Option ℕ) (r : Result (List (ℕ × Summand)) ReadCause) → known_terms vars sum ≡ r
         → (or_cause cause.NameUnknown o >>= λ id. (r >>= λ others. Ok ((id, s) ∷ others))) ≡ Err c → c ≡ cause.NameUnknown
-    by None r is f = cc f
-    by (Some id) (Err d) is f = let same : d ≡ c = cc f in sym same ∙ unknown_only vars sum d is
-    by (Some id) (Ok ts) is f = absurd (cc f)
+    by others None r is f = sym (cc f)
+    by others (Some id) (Err d) is f = let same : d ≡ c = cc f in sym same ∙ others d is
+    by others (Some id) (Ok ts) is f = absurd (cc f)
 
 -- one value more
 valued_more : (ts : List (ℕ × Summand)) (id : ℕ) (s : Summand)
