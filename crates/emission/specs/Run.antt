@@ -27,7 +27,7 @@ abbrev pub refused_by : Refusal → Halt
 refused_by (no_bound mark v) = NoBound mark v
 refused_by (too_wide mark) = TooWide mark
 
--- the builder takes a row of these terms where there are so many columns
+-- the builder takes a row of these terms where there are that many columns
 abbrev pub is_fit : ℕ → List (ℕ × ℤ) → Bool
 is_fit count ts = nat_le (length ts) 4000 && ids_below count ts && are_summable ts
 

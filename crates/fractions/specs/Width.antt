@@ -7,7 +7,7 @@ abbrev pub fits : ℤ → Bool
 fits (pos n) = nat_lt n (2 ^ 127)
 fits (negsuc n) = nat_lt n (2 ^ 127)
 
--- the number is outside the range of i128
+-- the number is outside the range of i128 (an overflow)
 abbrev pub IsWide : ℤ → Type 0
 IsWide z = fits z ≡ false
 

@@ -12,13 +12,13 @@ use Rattle.gdp_cli.specs.Test.{TestSays}
 use Rattle.gdp_cli.specs.Words.{Form, IsRead}
 use Rattle.gdp_cli.specs.Words.Form.{Test, Format}
 
--- Where the contents behind the names are told, the command answers this status and this text.
+-- Where the contents behind the names are revealed, the command answers this status and this text.
 abbrev pub Says : Form → Contents → Status → List ℕ → Type 0
 Says (Test model point) contents status text = (model_text point_text : List ℕ) → contents model ≡ Some model_text → contents point ≡ Some point_text →
     TestSays model point model_text point_text status text
 Says (Format model) contents status text = (model_text : List ℕ) → contents model ≡ Some model_text → FormatSays model model_text status text
 
--- no text that is read before this name is too long, where the contents are told
+-- no text that is read before this name is too long, where the contents are revealed
 abbrev pub FitsBefore : Form → Contents → List ℕ → Type 0
 FitsBefore (Test model point) contents name = (name ≡ model) ⊎ ((all : List ℕ) → contents model ≡ Some all → ¬ IsLong all)
 FitsBefore (Format model) contents name = Unit {0}

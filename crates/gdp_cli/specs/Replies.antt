@@ -5,7 +5,7 @@ use Rattle.gdp_io.specs.declared.shelves.ReadAllError.TheVariants as Error
 use Rattle.gdp_cli.specs.declared.status.Status.{Status}
 use Rattle.gdp_cli.specs.Messages.{read_fault, too_long}
 
--- the status and the text where the text behind the name was not read for this cause; want of memory is no answer
+-- the status and the text where the text behind the name was not read for this cause; running out of memory is no answer
 abbrev pub ReadFailed : ReadAllError → List ℕ → Status → List ℕ → Type 0
 ReadFailed Error.Read name status text = (status ≡ Status.Read) × (text ≡ read_fault name)
 ReadFailed Error.TooLong name status text = (status ≡ Status.Text) × (text ≡ too_long name)

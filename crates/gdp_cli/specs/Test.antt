@@ -22,7 +22,7 @@ VerdictSays (Err wide) = Last GaveUp (wide_at wide.mark)
 abbrev pub TestedSays : ModelTree → PointValue × List Bool → Rows
 TestedSays m p = VerdictSays (verdict_of (tests_of m (point_of p.0 p.1)))
 
--- Reading comes before the texts: a text that is too long is told first. Of the texts the model's comes first.
+-- Reading comes before the texts: a text that is too long is reported first. Of the texts the model's comes first.
 abbrev pub TestSays : (model point model_text point_text : List ℕ) → Rows
 TestSays model point model_text point_text =
     Row (IsLong model_text) Text (too_long model) (

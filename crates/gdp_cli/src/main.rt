@@ -2,7 +2,7 @@
 //!
 //! All that it does is [`run`](run::run): from the words of the command line, a shelf of texts and two sinks to a
 //! status. Its contract in one sentence: the words pick a command, the command answers a status and a text by a table
-//! over the texts behind its names, that text goes to `out` or to `err`, and a read or write is told as failed only
+//! over the texts behind its names, that text goes to `out` or to `err`, and a read or write is reported as failed only
 //! where a count of faults rose.
 //!
 //! Read `specs/Words.antt`, `specs/Test.antt` and `specs/Format.antt`, then `run.rt`, `streams.rt`, `test_command.rt` and
@@ -29,7 +29,7 @@ use std::process::ExitCode;
 use std::{env, io};
 use streams::say;
 
-/// The status where the words can't be had for another cause than want of memory, as where one is not UTF-8.
+/// The status where the words can't be had for another cause than running out of memory, as where one is not UTF-8.
 const NO_WORDS: u8 = 9;
 
 /// The words after the program's name.

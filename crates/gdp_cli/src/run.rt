@@ -59,7 +59,7 @@ pub fn run<S: Shelf, K: Sink, E: Sink>(
     // On 2, 4, 5, 7 and 8 `out` gets nothing.
     ensures quiet { ¬ IsOut result → result ≢ Status.Write → K.written out.new ≡ K.written out.old }
 
-    // Where no count rose, a command answers by its texts, or wants memory.
+    // Where no count rose, a command answers by its texts, or runs out of memory.
     ensures complete { (form : Form) → IsForm (words_of words.now) form → NoFault form (S.faults shelf.old) (S.faults shelf.new)
         → ¬ Rose (K.faults out.old) (K.faults out.new) → IsWorked result ⊎ (result ≡ Status.Memory) }
 {

@@ -21,7 +21,7 @@ pub enum Status {
     Write,
     /// The words are of no form.
     Words,
-    /// Memory was wanted and not had.
+    /// Memory ran out.
     Memory,
 }
 

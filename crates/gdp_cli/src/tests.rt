@@ -311,7 +311,7 @@ fn reads_logic_to_its_limits(rt: HostRuntime) {
     expect_format(&rt, loose, 0, Status::Done, plain, b"");
 }
 
-/// A text of so many blanks.
+/// A text of that many blanks.
 fn blanks(rt: &(impl AllocGlobal + Abort), count: usize) -> Vec<u8> {
     vec![in rt.alloc(); b' '; count].expect(rt, "memory")
 }
@@ -322,7 +322,7 @@ fn tells_texts_that_are_too_long(rt: HostRuntime) {
     let long = long.as_slice();
     let most = blanks(&rt, 8_388_608);
     let most = most.as_slice();
-    // Reading comes first: a second text that is too long is told before a bad line of the first.
+    // Reading comes first: a second text that is too long is reported before a bad line of the first.
     let rows: [(&[u8], &[u8], &[u8]); 5] = [
         (long, b"", b"M: too long\n"),
         (long, long, b"M: too long\n"),

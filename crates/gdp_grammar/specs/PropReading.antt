@@ -10,7 +10,7 @@ use Rattle.gdp_grammar.specs.PropTexts.{Counting, exactly, at_least, at_most, Op
 use Rattle.gdp_grammar.specs.Tokens.{Piece, Word, Number, Mark}
 
 -- What is made of a proposition as it is read: of a name, of an operator when it is opened, of an opened one with one
--- more argument, and of an operator when it is closed, which fails where it doesn't take so many.
+-- more argument, and of an operator when it is closed, which fails where it doesn't take that many.
 pub record Making (P O : Type 0) : Type 0 where
   pub of_name : List ℕ → P
   pub opened : Operator → O
@@ -91,7 +91,7 @@ abbrev pub arguments : List NamedProp → NamedProps
 arguments [] = no_arguments
 arguments (p ∷ ps) = argument p (arguments ps)
 
--- the proposition of an operator with these arguments, if it takes so many
+-- the proposition of an operator with these arguments, if it takes that many
 abbrev pub application : Operator × List NamedProp → Option NamedProp
 application o = if takes o.0 (length o.1) then Some (applied o.0 (arguments o.1)) else None
 

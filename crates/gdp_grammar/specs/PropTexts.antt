@@ -51,7 +51,7 @@ opening all = Word (codes "and") ∷ Mark Open ∷ []
 opening some = Word (codes "or") ∷ Mark Open ∷ []
 opening (counted c digits) = Word (counting_word c) ∷ Mark Open ∷ Number (Whole digits) ∷ Mark Comma ∷ []
 
--- the tokens that a proposition is written with: its arguments stand in parentheses, parted by commas
+-- the tokens that a proposition is written with: its arguments stand in parentheses, separated by commas
 abbrev mutual
   pub pieces_of : NamedProp → List Piece
   pieces_of (named name) = Word name ∷ []
@@ -70,7 +70,7 @@ abbrev pub argument_count : NamedProps → ℕ
 argument_count no_arguments = 0
 argument_count (argument p ps) = suc (argument_count ps)
 
--- the operator takes so many arguments: `not` one, `implies`, `equivalent` and `xor` two, and any other one or more
+-- the operator takes that many arguments: `not` one, `implies`, `equivalent` and `xor` two, and any other one or more
 abbrev pub takes : Operator → ℕ → Bool
 takes negation n = n == 1
 takes (pair c) n = n == 2

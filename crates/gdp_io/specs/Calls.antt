@@ -1,7 +1,7 @@
 -- Calls that are numbered from 1, some of which fail.
 use Rattle.std.specs.Prelude.{◌≡◌, ℕ, ◌+◌, ◌-◌, ◌^◌, ◌⊎◌, List, min, Contains}
 
--- after so many calls the next one fails: its number is listed, or the numbers are used up
+-- after that many calls the next one fails: its number is listed, or the numbers are used up
 abbrev pub FailsAfter : List ℕ → ℕ → Type 0
 FailsAfter failing made = (made ≡ 2 ^ 32 - 1) ⊎ Contains failing (made + 1)
 

@@ -17,7 +17,7 @@ use gdp_grammar::ReadCause;
 /// The greatest of a number's parts.
 const LIMIT: u64 = 1_000_000_000_000_000;
 
-/// The most places of a decimal: `LIMIT` is 1 and so many zeros.
+/// The most places of a decimal: `LIMIT` is 1 and that many zeros.
 const PLACES: usize = 15;
 
 /// The number and one digit more.
@@ -60,7 +60,7 @@ fn size_with(digits: &[u8], places: &[u8]) -> Option<u64>
     }
 }
 
-/// The denominator of a decimal of so many places, if it is in range.
+/// The denominator of a decimal of that many places, if it is in range.
 fn power_of(places: usize) -> Option<u64>
     ensures { result ≡ in_range (10 ^ places) }
 {
@@ -70,7 +70,7 @@ fn power_of(places: usize) -> Option<u64>
     Some(10u64.pow(places as u32))
 }
 
-/// The part of a number over the stroke, if it is in range.
+/// The part of a number above the fraction bar, if it is in range.
 fn over_part(number: &Numeral<'_>) -> Option<u64>
     ensures { result ≡ in_range (over_part_of (spelled number.now)) }
 {
@@ -81,7 +81,7 @@ fn over_part(number: &Numeral<'_>) -> Option<u64>
     }
 }
 
-/// The part of a number under the stroke, if it is in range or 0.
+/// The part of a number below the fraction bar, if it is in range or 0.
 fn under_part(number: &Numeral<'_>) -> Option<u64>
     ensures { result ≡ in_range (under_part_of (spelled number.now)) }
 {

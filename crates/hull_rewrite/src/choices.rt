@@ -75,7 +75,7 @@ fn is_small_hull(alloc: Global, disjunction: &Disjunction, bounds: &Bounds) -> R
     }
 }
 
-// Whether so many variables times the disjuncts are at most 12.
+// Whether that many variables times the disjuncts are at most 12.
 fn is_product_small(count: usize, disjuncts: &[Disjunct]) -> bool
     ensures { result ≡ nat_le (count * disjunct_count (disjuncts_of disjuncts.now)) 12 }
 {

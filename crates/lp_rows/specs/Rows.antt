@@ -6,7 +6,7 @@ use Rattle.lp_rows.specs.declared.kinds.Rel.{Rel}
 use Rattle.lp_rows.specs.declared.rows.RowError.{RowError}
 use Rattle.lp_rows.specs.declared.rows.RowError.TheVariants.{Order, Zero, Coefficient}
 
--- a row: its terms, each an id with its coefficient, its relation and its right side
+-- a row (a constraint): its terms, each an id with its coefficient, its relation and its right side
 pub record RowValue : Type 0 where
   pub terms : List (ℕ × ℤ)
   pub rel : Rel

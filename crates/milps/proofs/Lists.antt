@@ -1,4 +1,4 @@
--- What is left of a list after so many elements.
+-- What is left of a list after that many elements.
 use Rattle.std.proofs.Common.{◌≡◌, ℕ, zero, suc, List, [], ◌∷◌, length, refl, ◌+◌, ◌<◌, ◌≤◌, arith, drop, get_or, add-one, drop-cons}
 
 -- one more element

@@ -94,7 +94,7 @@ impl ModelBuilder {
     /// Declares a Boolean, and answers its number.
     ///
     /// `Place` where a block or a disjunction is open or one was opened before, `NameTwice` where the name is taken,
-    /// `Limit` where there are 200 Booleans or the name is no name of a model.
+    /// `Limit` where there are 200 Booleans or the name is not a valid name.
     pub fn boolean(&mut self, alloc: Global, name: &str, mark: u32) -> Result<u32, BuildError>
         ensures { Acts BuildError.Memory (stands_for self.old) (boolean_outcome name.now mark (stands_for self.old)) result
             (stands_for self.new) }
@@ -137,7 +137,7 @@ impl ModelBuilder {
     /// Opens a disjunct in the disjunction that is open, and answers the number of its indicator.
     ///
     /// `Place` where no disjunction is open, `NameTwice` where the name is taken, `Nesting` where eight disjuncts are
-    /// open, `Limit` where there are 200 Booleans or the name is no name of a model.
+    /// open, `Limit` where there are 200 Booleans or the name is not a valid name.
     pub fn open_disjunct(&mut self, alloc: Global, name: &str, mark: u32) -> Result<u32, BuildError>
         ensures { Acts BuildError.Memory (stands_for self.old) (open_disjunct_outcome name.now mark (stands_for self.old)) result
             (stands_for self.new) }

@@ -146,7 +146,7 @@ fn finish(alloc: Global, bench: &mut Bench) -> Result<(), BuildError> {
     }
 }
 
-// Changes the propositions: an atom so many times, or a connective of those that stand last.
+// Changes the propositions: an atom that many times, or a connective of those that stand last.
 fn stack(alloc: Global, bench: &mut Bench, words: &[&str]) -> Result<Option<String>, Trouble> {
     match words {
         ["atom", boolean, count] => atoms(bench, id(boolean)?, id(count)?)?,
@@ -216,7 +216,7 @@ fn equivalent(alloc: Global, bench: &mut Bench) -> Result<(), Trouble> {
     Ok(())
 }
 
-// So many propositions that stand last, in the order in which they were made.
+// That many propositions that stand last, in the order in which they were made.
 fn list(alloc: Global, bench: &mut Bench, count: u32) -> Result<Vec<Prop>, Trouble> {
     let mut props = Vec::new(alloc);
     for _ in 0..count {

@@ -7,7 +7,7 @@ use Rattle.model_tree.specs.declared.tree.Block.{Block}
 use Rattle.model_tree.specs.Tree.{BlockTree}
 use Rattle.model_tree.specs.View.{block_of}
 
--- a goal: the sum of its terms and its constant are whole, and the goal is that sum over the scale
+-- a goal (the objective): the sum of its terms and its constant are whole, and the goal is that sum over the scale
 pub record GoalValue : Type 0 where
   pub sense : Sense
   pub terms : List (ℕ × ℤ)

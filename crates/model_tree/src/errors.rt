@@ -24,13 +24,13 @@ pub enum BuildError {
     /// A block is still open.
     #[error("a block is open")]
     Unclosed,
-    /// A limit on size would be passed, a name is no name of a model, or a connective has a list without arguments.
+    /// A limit on size would be passed, a name is not a valid name, or a connective has a list without arguments.
     #[error("a limit would be passed")]
     Limit,
     /// A disjunction has no disjunct, or a model no variable.
     #[error("a disjunct or a variable is missing")]
     Missing,
-    /// Memory was wanted and not had.
+    /// Memory ran out.
     #[error("out of memory")]
     Memory,
 }

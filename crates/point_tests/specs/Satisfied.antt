@@ -57,7 +57,7 @@ abbrev pub true_count : Disjuncts → (ℕ → Bool) → ℕ
 true_count no_disjuncts truths = 0
 true_count (disjunct head b js) truths = if truths head.indicator then suc (true_count js truths) else true_count js truths
 
--- the mode allows so many true indicators
+-- the mode allows that many true indicators
 abbrev pub mode_allows : Mode → ℕ → Bool
 mode_allows Xor n = nat_eq n 1
 mode_allows Or n = nat_le 1 n

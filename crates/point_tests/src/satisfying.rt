@@ -261,7 +261,7 @@ fn true_count(disjuncts: &[Disjunct], truths: &[bool]) -> usize
     count
 }
 
-// Whether the mode allows so many true indicators.
+// Whether the mode allows that many true indicators.
 fn mode_allows(mode: Mode, count: usize) -> bool
     ensures { result ≡ allows mode count }
 {

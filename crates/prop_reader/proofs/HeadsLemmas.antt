@@ -114,7 +114,7 @@ behind_first {P} {O} make stack word None ps = by (is_reserved word)
     by true = refl
     by false = refl
 
--- where a proposition is wanted, its beginning comes
+-- where a proposition is expected, its beginning comes
 pub headed : {P O : Type 0} (make : Making P O) (stack : List O) (ps : List Piece)
     → made_of make stack wants ps ≡ (head_of ps >>= λ h. after_head make stack h)
 headed make [] [] = refl

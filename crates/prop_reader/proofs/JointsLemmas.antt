@@ -68,7 +68,7 @@ goes_wrong r f whole c goes fails = sym goes ∙ ap (λ s. s >>= f) fails
 goes_well : {A B : Type 0} (r : Result A ReadCause) (f : A → Result B ReadCause) (whole : Result B ReadCause) (x : A) → (r >>= f) ≡ whole → r ≡ Ok x → f x ≡ whole
 goes_well r f whole x goes is = sym (ap (λ s. s >>= f) is) ∙ goes
 
--- where a proposition is wanted
+-- where a proposition is expected
 pub wrong_head : {P O : Type 0} (make : Making P O) (stack : List O) (ps : List Piece) (whole : Result P ReadCause) (c : ReadCause)
     → made_of make stack wants ps ≡ whole → head_of ps ≡ Err c → whole ≡ Err c
 wrong_head make stack ps whole c goes fails = goes_wrong (head_of ps) (λ h. after_head make stack h) whole c (sym (headed make stack ps) ∙ goes) fails
@@ -192,7 +192,7 @@ further_left ps qs e = joint_left ps (Further, qs) e (λ same. absurd (cc same))
 pub closes_left : (ps qs : List Piece) → joint_of ps ≡ Ok (Closes, qs) → length qs < length ps
 closes_left ps qs e = joint_left ps (Closes, qs) e (λ same. absurd (cc same))
 
--- a proposition is wanted, or this one is read
+-- a proposition is expected, or this one is read
 abbrev pub place_of : {P : Type 0} → Option P → Place P
 place_of None = wants
 place_of (Some p) = has p

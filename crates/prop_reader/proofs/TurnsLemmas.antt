@@ -25,7 +25,7 @@ at_some : {P O X : Type 0} (make : Making P O) (view : X → O) (frames : List X
     → Reads make view frames read ps whole → read ≡ Some p → made_of make (inward view frames) (has p) ps ≡ whole
 at_some {P} make view frames read p ps whole goes some = sym (ap (λ (r : Option P). made_of make (inward view frames) (place_of r) ps) some) ∙ goes
 
--- where a proposition is wanted and none begins
+-- where a proposition is expected and none begins
 pub none_begins : {P O X : Type 0} (make : Making P O) (view : X → O) (frames : List X) (read : Option P) (ps : List Piece) (whole : Result P ReadCause) (c : ReadCause)
     → Reads make view frames read ps whole → read ≡ None → head_of ps ≡ Err c → whole ≡ Err c
 none_begins make view frames read ps whole c goes none fails = wrong_head make (inward view frames) ps whole c (at_none make view frames read ps whole goes none) fails

@@ -101,7 +101,7 @@ impl<'a> Opened<'a> {
         })
     }
 
-    /// What is read of the operator with its arguments, if it takes so many.
+    /// What is read of the operator with its arguments, if it takes that many.
     pub fn closed(self, alloc: Global) -> Result<Option<Reading>, Memory>
         ensures { IfOk result (λ read. option_map reading_value read ≡ closed_reading (opened_value self.entry)) }
     {

@@ -52,7 +52,7 @@ pub fn operator_word<'a>(word: &str) -> Option<OperatorWord<'a>>
     }
 }
 
-/// Whether the operator takes so many arguments.
+/// Whether the operator takes that many arguments.
 pub fn takes(operator: &Operator<'_>, count: usize) -> bool
     ensures { result ≡ takes_so_many (operator_value operator.now) count }
 {

@@ -61,7 +61,7 @@ impl Size {
         }
     }
 
-    /// The size of an operator over so many arguments, which have this size together.
+    /// The size of an operator over that many arguments, which have this size together.
     pub fn around(&self, operator: &Operator<'_>, count: usize) -> Size
         ensures { result ≡ whole_size (operator_value operator.now) count self.now }
     {

@@ -36,7 +36,7 @@ yes_count ts = count_by is_yes ts
 abbrev pub open_count : List Tri → ℕ
 open_count ts = count_by is_open ts
 
--- whether at least n are true, where so many are yes and so many undecided
+-- whether at least n are true, where that many are yes and that many undecided
 abbrev pub at_least_of : ℕ → ℕ → ℕ → Tri
 at_least_of n sure undecided = if nat_le n sure then Yes else (if nat_lt (sure + undecided) n then No else Open)
 

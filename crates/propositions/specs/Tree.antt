@@ -7,7 +7,7 @@ pub data PairConnective : Type 0 where
   equivalent : PairConnective
   xor : PairConnective
 
--- a connective of a list of propositions: all of them, some of them, or so many of them
+-- a connective of a list of propositions: all of them, some of them, or that many of them
 pub data ListConnective : Type 0 where
   all_of : ListConnective
   some_of : ListConnective

@@ -95,7 +95,7 @@ fn or_all(props: &[Prop], truths: &[Tri]) -> Tri
     some
 }
 
-// Whether exactly so many are true.
+// Whether exactly that many are true.
 #[cycle(reading)]
 fn exactly(number: u32, props: &[Prop], truths: &[Tri]) -> Tri
     requires { are_all_ids_below (length truths.now) (prop_trees props.now) ≡ true }
@@ -105,7 +105,7 @@ fn exactly(number: u32, props: &[Prop], truths: &[Tri]) -> Tri
     exactly_of(number, counts.yes, counts.undecided)
 }
 
-// Whether at least so many are true.
+// Whether at least that many are true.
 #[cycle(reading)]
 fn at_least(number: u32, props: &[Prop], truths: &[Tri]) -> Tri
     requires { are_all_ids_below (length truths.now) (prop_trees props.now) ≡ true }
@@ -115,7 +115,7 @@ fn at_least(number: u32, props: &[Prop], truths: &[Tri]) -> Tri
     at_least_of(number as usize, counts.yes, counts.undecided)
 }
 
-// Whether at most so many are true.
+// Whether at most that many are true.
 #[cycle(reading)]
 fn at_most(number: u32, props: &[Prop], truths: &[Tri]) -> Tri
     requires { are_all_ids_below (length truths.now) (prop_trees props.now) ≡ true }
@@ -157,7 +157,7 @@ pub fn is_open(reading: Tri) -> bool
     matches!(reading, Tri::Open)
 }
 
-/// Whether at least so many are true, where so many are Yes and so many Open.
+/// Whether at least that many are true, where that many are Yes and that many Open.
 pub fn at_least_of(number: usize, yes: usize, undecided: usize) -> Tri
     requires { yes + undecided < 2 ^ 63 }
     ensures { result ≡ tri_at_least number yes undecided }
@@ -171,7 +171,7 @@ pub fn at_least_of(number: usize, yes: usize, undecided: usize) -> Tri
     }
 }
 
-// Whether at most so many are: not at least one more.
+// Whether at most that many are: not at least one more.
 fn at_most_of(number: u32, yes: usize, undecided: usize) -> Tri
     requires { yes + undecided < 2 ^ 63 }
     ensures { result ≡ tri_at_most number yes undecided }
@@ -179,7 +179,7 @@ fn at_most_of(number: u32, yes: usize, undecided: usize) -> Tri
     tri_not(at_least_of(number as usize + 1, yes, undecided))
 }
 
-/// Whether exactly so many are: at least and at most so many.
+/// Whether exactly that many are: at least and at most that many.
 pub fn exactly_of(number: u32, yes: usize, undecided: usize) -> Tri
     requires { yes + undecided < 2 ^ 63 }
     ensures { result ≡ tri_exactly number yes undecided }

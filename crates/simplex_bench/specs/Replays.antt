@@ -7,7 +7,7 @@ use Rattle.exact_simplex.specs.Table.{Table}
 use Rattle.exact_simplex.specs.Equations.{IsFirstTable}
 use Rattle.exact_simplex.specs.Run.{HasRun, HasEnded}
 
--- the events are Bland's moves, one after the other, from the slack basis, at most so many, and the outcome is how they
+-- the events are Bland's moves, one after the other, from the slack basis, at most that many, and the outcome is how they
 -- end
 pub record IsReplay (form : Standard) (most : ℕ) (events : List Event) (outcome : Outcome) : Type 0 where
   pub first : Table

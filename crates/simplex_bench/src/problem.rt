@@ -18,7 +18,7 @@ use std::str::SplitWhitespace;
 pub enum BadProblem {
     /// The words are no file and count, the file can't be read, or its text is no standard form.
     Refused,
-    /// Memory was wanted and not had.
+    /// Memory ran out.
     Memory,
 }
 
@@ -101,7 +101,7 @@ fn read_rows(
     Ok(rows)
 }
 
-// So many columns that are non-negative.
+// That many columns that are non-negative.
 fn nonnegative(alloc: Global, columns: u32) -> Result<ColList, Memory> {
     let mut cols = ColList::new(alloc);
     for _ in 0..columns {

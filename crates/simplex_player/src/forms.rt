@@ -60,7 +60,7 @@ fn lifted(alloc: Global, force: &Force, over: &str, words: &[&str]) -> Result<St
     point_text(alloc, &lift(alloc, force, &split)?)
 }
 
-/// Whether a force of so many columns of one kind and so many empty rows is bounded.
+/// Whether a force of that many columns of one kind and that many empty rows is bounded.
 pub fn large(alloc: Global, word: &str, cols: u32, rows: u32) -> Result<String, Trouble> {
     let mut list = ColList::new(alloc);
     for byte in word.bytes() {

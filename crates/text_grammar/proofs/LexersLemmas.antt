@@ -1,4 +1,4 @@
--- The tokens of words that are parted by blanks, for every way to cut tokens off.
+-- The tokens of words that are separated by blanks, for every way to cut tokens off.
 use Rattle.std.proofs.Common.{◌≡◌, ℕ, zero, suc, ◌≤◌, true, false, if◌then◌else◌, List, [], ◌∷◌, ◌++◌, length, refl, ap, sym, ◌∙◌, inl, inr, arith}
 use Rattle.std.proofs.lemmas.Bool.{cond-true, cond-false}
 use Rattle.text_grammar.specs.Bytes.{is_blank, rest}

@@ -85,7 +85,7 @@ fn read_long(alloc: Global, limit: &str) -> Result<String, Trouble> {
     }
 }
 
-// What a sink has that takes so many bytes a call and in all, and whether it took the whole.
+// What a sink has that takes that many bytes a call and in all, and whether it took the whole.
 fn write(alloc: Global, most: u32, room: u32, failing: u32) -> Result<String, Trouble> {
     if most == 0 {
         return Err(Trouble::Line);

@@ -68,7 +68,7 @@ pub fn known(alloc: Global, text: &str) -> Result<String, Trouble> {
     }
 }
 
-/// Reads so many negations of p, without and with the closing parentheses: depth, nodes and most arguments.
+/// Reads that many negations of p, without and with the closing parentheses: depth, nodes and most arguments.
 pub fn deep(alloc: Global, count: u32) -> Result<String, Trouble> {
     let mut text = String::new(alloc);
     for _ in 0..count {

@@ -65,7 +65,7 @@ whole_tree o None trees = result_map (λ ts. combined o (in_order ts)) trees
 abbrev pub whole_reading : OpenTree → ReadTree
 whole_reading o = (whole_size o.0 o.1 o.2, whole_tree o.0 (refusal_of_size (whole_size o.0 o.1 o.2)) o.3)
 
--- an operator with its arguments, if it takes so many
+-- an operator with its arguments, if it takes that many
 abbrev pub closed_reading : OpenTree → Option ReadTree
 closed_reading o = if takes o.0 o.1 then Some (whole_reading o) else None
 

@@ -39,7 +39,7 @@ joined_size a b = record {
   most = max a.most b.most;
 }
 
--- the size of an operator over so many arguments, which have this size together
+-- the size of an operator over that many arguments, which have this size together
 abbrev pub whole_size : Operator → ℕ → Size → Size
 whole_size operator count inner = record {
   known = inner.known;
