@@ -9,6 +9,7 @@ use Rattle.emission.specs.declared.literals.Literal.{Literal}
 use Rattle.block_tree.specs.Satisfied.{PointOf}
 use Rattle.emission.specs.Items.{AreMeant, Item, Meets, col, refused, row}
 use Rattle.emission.specs.Literals.{literal_times, literals_times, signed}
+use Rattle.propositions.proofs.Layers.{count_more}
 use Rattle.emission.specs.Sums.{Sum, column, minus, number, pick, plus, row_of, value}
 use Rattle.int_linear.proofs.Dots.{dot-append}
 use Rattle.int_linear.proofs.Ring.{add_mul, le_cancel, le_mul, lt_mul, mul_nonneg, neg_mul, one_mul, products}
@@ -73,7 +74,9 @@ value-lits c [] (b ∷ bs) d w h = absurd h
 value-lits c (l ∷ ls) [] d w h = absurd h
 value-lits c (l ∷ ls) (b ∷ bs) d w h =
     let i = value-lits c ls bs d w h.1 in
-    rw (value-plus (literal_times c l) (literals_times c ls) d w, value-lit c l d w, h.0, i, pick_one b d, pos_add (from_bool b) (true_count bs) d) (simp products (omega (arith, ints)))
+    let more : value (literal_times c l) d w +ℤ value (literals_times c ls) d w ≡ c *ℤ (pos (from_bool b + true_count bs) *ℤ d) =
+        rw (value-lit c l d w, h.0, i, pick_one b d, pos_add (from_bool b) (true_count bs) d) (simp products (omega (arith, ints))) in
+    value-plus (literal_times c l) (literals_times c ls) d w ∙ more ∙ ap (λ n. c *ℤ (pos n *ℤ d)) (sym (count_more (λ x. x) b bs))
 
 pub read_length : (ls : List Literal) (bs : List Bool) (d : ℤ) (w : ℕ → ℤ) → Read ls bs d w → length ls ≡ length bs
 read_length [] [] d w h = refl

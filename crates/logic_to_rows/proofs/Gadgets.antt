@@ -1,6 +1,8 @@
 -- What the rows of one new column say of it.
-use Rattle.std.proofs.Common.{◌≡◌, ℕ, ℤ, pos, ◌+ℤ◌, ◌-ℤ◌, ◌*ℤ◌, ◌≤ℤ◌, ◌<ℤ◌, Bool, true, false, List, [], ◌∷◌, length, arith, refl, ap, sym, ◌∙◌, ◌+◌, ◌<◌, ◌≤◌}
+use Rattle.std.proofs.Common.{◌≡◌, ℕ, ℤ, pos, ◌+ℤ◌, ◌-ℤ◌, ◌*ℤ◌, ◌≤ℤ◌, ◌<ℤ◌, Bool, true, false, List, [], ◌∷◌, length, arith, refl, ap, sym, subst, ◌∙◌, suc, ◌+◌, ◌<◌, ◌≤◌}
 use Rattle.std.specs.Prelude.{◌↔◌}
+use Rattle.std.specs.Int.{from_bool}
+use Rattle.propositions.proofs.Layers.{count_more}
 use Rattle.std.proofs.lemmas.Int.{ints}
 use Rattle.lp_rows.specs.declared.kinds.Rel.TheVariants.{AtMost}
 use Rattle.emission.specs.declared.literals.Literal.{Literal}
@@ -13,30 +15,43 @@ use Rattle.logic_to_rows.specs.Emitted.{above_each, all_rows, below_each, some_r
 use Rattle.milps.proofs.Columned.{and_left, and_right, and_true, or_left, or_right, or_then}
 use Rattle.propositions.specs.Truth.{are_all_true, is_some_true, true_count}
 
+-- a list with one more truth value
+one_true : (bs : List Bool) → true_count (true ∷ bs) ≡ suc (true_count bs)
+one_true bs = count_more (λ b. b) true bs ∙ plus_one (true_count bs)
+  where
+    plus_one : (n : ℕ) → from_bool true + n ≡ suc n
+    plus_one n = omega arith
+
+one_false : (bs : List Bool) → true_count (false ∷ bs) ≡ true_count bs
+one_false bs = count_more (λ b. b) false bs ∙ plus_none (true_count bs)
+  where
+    plus_none : (n : ℕ) → from_bool false + n ≡ n
+    plus_none n = omega arith
+
 pub count-le-length : (bs : List Bool) → true_count bs ≤ length bs
 count-le-length [] = omega arith
-count-le-length (true ∷ bs) = let i = count-le-length bs in omega arith
-count-le-length (false ∷ bs) = let i = count-le-length bs in omega arith
+count-le-length (true ∷ bs) = let i = count-le-length bs in subst (λ n. n ≤ suc (length bs)) (sym (one_true bs)) (omega (arith, i))
+count-le-length (false ∷ bs) = let i = count-le-length bs in subst (λ n. n ≤ suc (length bs)) (sym (one_false bs)) (omega (arith, i))
 
 pub all_count : (bs : List Bool) → are_all_true bs ≡ true → true_count bs ≡ length bs
 all_count [] h = refl
-all_count (true ∷ bs) h = let i = all_count bs h in omega arith
+all_count (true ∷ bs) h = one_true bs ∙ ap suc (all_count bs h)
 all_count (false ∷ bs) h = cc
 
 pub not_all_count : (bs : List Bool) → are_all_true bs ≡ false → true_count bs < length bs
 not_all_count [] h = cc
-not_all_count (true ∷ bs) h = let i = not_all_count bs h in omega arith
-not_all_count (false ∷ bs) h = let i = count-le-length bs in omega arith
+not_all_count (true ∷ bs) h = let i = not_all_count bs h in subst (λ n. n < suc (length bs)) (sym (one_true bs)) (omega (arith, i))
+not_all_count (false ∷ bs) h = let i = count-le-length bs in subst (λ n. n < suc (length bs)) (sym (one_false bs)) (omega (arith, i))
 
 pub any_count : (bs : List Bool) → is_some_true bs ≡ true → 0 < true_count bs
 any_count [] h = cc
-any_count (true ∷ bs) h = omega arith
-any_count (false ∷ bs) h = let i = any_count bs h in omega arith
+any_count (true ∷ bs) h = subst (λ n. 0 < n) (sym (one_true bs)) (omega arith)
+any_count (false ∷ bs) h = subst (λ n. 0 < n) (sym (one_false bs)) (any_count bs h)
 
 pub not_any_count : (bs : List Bool) → is_some_true bs ≡ false → true_count bs ≡ 0
 not_any_count [] h = refl
 not_any_count (true ∷ bs) h = cc
-not_any_count (false ∷ bs) h = let i = not_any_count bs h in omega arith
+not_any_count (false ∷ bs) h = one_false bs ∙ not_any_count bs h
 
 -- c only where b
 pub only_where : (c b : Bool) (d : ℤ) → pos 0 <ℤ d → ((pick c d -ℤ pick b d) ≤ℤ pos 0) ↔ (c ≡ true → b ≡ true)
