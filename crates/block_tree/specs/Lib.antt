@@ -19,6 +19,6 @@ pub use Rattle.model_builder.specs.Whole
 pub use Rattle.point_tests.specs.Satisfied
 pub use Rattle.point_tests.specs.Tests
 pub use Rattle.point_tests.specs.Worth
+pub use Rattle.model_items.specs.Force
 pub use Rattle.model_items.specs.Items
 pub use Rattle.model_items.specs.Occurs
-pub use Rattle.model_items.specs.Picking

@@ -1,4 +1,5 @@
-pub mod Counted
-pub mod Meeting
-pub mod Members
-pub mod Picked
+pub mod CountingLemmas
+pub mod ForceLemmas
+pub mod ItemsLemmas
+pub mod OccursLemmas
+pub mod PickingLemmas

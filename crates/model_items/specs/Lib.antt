@@ -1,3 +1,4 @@
+pub mod Force
 pub mod Items
 pub mod Occurs
-pub mod Picking
+pub mod steps

@@ -27,7 +27,3 @@ abbrev mutual
 -- the set has just the ids that pass the test
 abbrev pub HasJust : (ℕ → Bool) → BTreeSet ℕ → Type 0
 HasJust test set = (id : ℕ) → contains nat_cmp set id ≡ test id
-
--- the set has the ids that it had before and those that pass the test
-abbrev pub Adds : (ℕ → Bool) → BTreeSet ℕ → BTreeSet ℕ → Type 0
-Adds test before now = (id : ℕ) → contains nat_cmp now id ≡ (contains nat_cmp before id || test id)

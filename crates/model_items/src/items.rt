@@ -33,10 +33,9 @@ ghost use Rattle.model_items.specs.Items.{
   item_count_of,
   condition_of,
 };
-ghost use Rattle.model_items.specs.Picking.{
+ghost use Rattle.model_items.specs.steps.Picking.{
   readings,
   reading_at,
-  are_props_below,
   is_block_below,
   are_disjunctions_below,
   are_disjuncts_below,
@@ -44,6 +43,7 @@ ghost use Rattle.model_items.specs.Picking.{
   item_total_below,
   item_total_within,
 };
+ghost use Rattle.model_tree.specs.Earlier.{name_only_first};
 ghost use Rattle.model_tree.specs.Values.{model_tree};
 ghost use Rattle.model_tree.specs.View.{
   block_of,
@@ -155,7 +155,7 @@ fn known_of(truths: &[Tri], number: u32) -> Tri
 
 // The reading at this place among the items of the block, or how far the place lies past them.
 #[cycle(items)]
-#[tactic(auto, using(crate::proofs::Picked::picked))]
+#[tactic(auto, using(crate::proofs::PickingLemmas::picked))]
 fn find_in_block(block: &Block, under: Option<u32>, place: u32, truths: &[Tri]) -> Result<Tri, u32>
     requires { is_block_below (length truths.now) (block_of block.now) ≡ true }
     ensures { result ≡ reading_at (readings (λ k. slice_index_or truths.now k No) (conditions_in under (block_of block.now))) place }
@@ -240,7 +240,7 @@ fn find_in_props(
     place: u32,
     truths: &[Tri],
 ) -> Result<Tri, u32>
-    requires { are_props_below (length truths.now) (props_of props.now) ≡ true }
+    requires { name_only_first (length truths.now) (props_of props.now) ≡ true }
     ensures { result ≡ reading_at (readings (λ k. slice_index_or truths.now k No) (map (λ q. enforced under q.0) (props_of props.now))) place }
 {
     let mut left = place;
@@ -330,7 +330,7 @@ fn is_open(reading: Tri) -> bool
 }
 
 // Whether each of the disjuncts' indicators implies the Boolean of this number.
-#[tactic(auto, using(crate::proofs::Picked::connected))]
+#[tactic(auto, using(crate::proofs::PickingLemmas::connected))]
 fn each_implies_tri(disjuncts: &[Disjunct], number: u32, truths: &[Tri]) -> Tri
     ensures { result ≡ and_all (tris_of (each_implies number (disjuncts_of disjuncts.now)) (λ k. slice_index_or truths.now k No)) }
 {

@@ -1,7 +1,9 @@
 //! The items of a model, its propositions and disjunctions: the condition of each, what is known of it, and the
 //! variables that occur in a disjunction.
 //!
-//! Read `items.rt` for the conditions, whose law is in `laws.rt`, and `occurring.rt` for the variables.
+//! A point is one of the model's just where the conditions of all items are true and what is in force holds.
+//!
+//! Read `items.rt` for the conditions, `laws.rt` for what they say of points, and `occurring.rt` for the variables.
 #![tactic(auto)]
 
 pub mod items;

@@ -1,8 +1,8 @@
 //! The variables that occur in the rows of a disjunction.
 
 ghost use Rattle.std.specs.Prelude.{IfOk, OnOk};
+ghost use Rattle.model_items.specs.steps.Adding.{Adds};
 ghost use Rattle.model_items.specs.Occurs.{
-  Adds,
   HasJust,
   occurs_in_rows,
   occurs_in_block,

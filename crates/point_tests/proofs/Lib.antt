@@ -1,3 +1,3 @@
-pub mod Quotients
-pub mod Telling
+pub mod SatisfiedLemmas
 pub mod TestsLemmas
+pub mod WorthLemmas

@@ -65,8 +65,9 @@ test_of_prop truths q = test_of (truth_of q.0 truths) q.1
 abbrev pub test_of_off : (ℕ → Bool) → DisjunctHead → Test
 test_of_off truths head = if truths head.indicator then fails head.mark else passes
 
--- A block's tests: its rows, then its propositions, then its disjunctions. Of a disjunction the number of true indicators comes first, then
--- each disjunct in order: the tests of a true one's block, and for a false one that every indicator below is false.
+-- A block's tests: its rows, then its propositions, then its disjunctions. Of a disjunction the number of true
+-- indicators comes first, then each disjunct in order: the tests of a true one's block, and for a false one that every
+-- indicator below is false.
 abbrev mutual
   pub tests_of_block : BlockTree → PointOf → List Test
   tests_of_block (block items ds) p = map (test_of_row p) items.rows ++ (map (test_of_prop p.truths) items.props ++ tests_of_disjunctions ds p)

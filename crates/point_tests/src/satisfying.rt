@@ -73,11 +73,11 @@ use propositions::{Prop, truth};
 
 /// Whether the point with these truth values satisfies the model.
 ///
-/// Tested are each variable's low bound, high bound and whether it is whole where it has to be (at the variable's mark), and
-/// then the root block: a block's rows, then its disjunctions. Of a disjunction the number of true indicators comes
-/// first, and then each disjunct: the block of a true one, and for a false one the first true indicator below it fails,
-/// at the mark of the disjunct that carries this indicator. The first test that fails, or that forms a number outside
-/// 128 bits, decides.
+/// Tested are each variable's low bound, high bound and whether it is whole where it has to be (at the variable's mark),
+/// and then the root block: a block's rows, then its propositions, then its disjunctions. Of a disjunction the number of
+/// true indicators comes first, and then each disjunct: the block of a true one, and for a false one the first true
+/// indicator below it fails, at the mark of the disjunct that carries this indicator. The first test that fails, or that
+/// forms a number outside 128 bits, decides.
 pub fn satisfies(model: &Model, at: &Point, truths: &[bool]) -> Result<Verdict, SumWide>
     requires numbers { length at.now.nums ≡ length model.now.vars }
     requires truths { length truths.now ≡ length model.now.booleans }

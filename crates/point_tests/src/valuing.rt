@@ -51,16 +51,5 @@ fn goal_value(
     let Some(below) = product(scale, over) else {
         return Err(ValueWide);
     };
-    Ok(quotient(above, below))
-}
-
-// The quotient in lowest terms. Its parts are no greater than those that are given, so they fit.
-fn quotient(num: i128, den: i128) -> Frac
-    requires { pos 0 <ℤ den }
-    ensures { IsReduced num den result }
-{
-    match Frac::new(num, den) {
-        Some(quotient) => quotient,
-        None => unreachable!(),
-    }
+    Ok(Frac::reduced(above, below))
 }

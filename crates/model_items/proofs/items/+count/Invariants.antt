@@ -1,5 +1,5 @@
 use Rattle.std.proofs.Common.{◌≡◌, ◌+◌, drop}
-use Rattle.model_items.specs.Picking.{item_total_below, item_total_within}
+use Rattle.model_items.specs.steps.Picking.{item_total_below, item_total_within}
 use Rattle.model_tree.specs.View.{disjunctions_of, disjuncts_of}
 use Rattle.model_items.proofs.items.+count.Given as goal
 

@@ -2,9 +2,9 @@ use Rattle.std.proofs.Common.{slice_index_or, map, arith, ap, ◌∙◌}
 use Rattle.std.proofs.lemmas.Grind.{common_steps}
 use Rattle.gdp_tables.specs.declared.tri.Tri.TheVariants.{No}
 use Rattle.model_items.specs.Items.{enforced, conditions_of_disjunctions}
-use Rattle.model_items.specs.Picking.{readings, reading_at}
+use Rattle.model_items.specs.steps.Picking.{readings, reading_at}
 use Rattle.model_tree.specs.View.{block_of}
-use Rattle.model_items.proofs.Picked.{disjunction_found, disjunction_passed, disjunct_found, disjunct_passed, block_passed}
+use Rattle.model_items.proofs.PickingLemmas.{disjunction_found, disjunction_passed, disjunct_found, disjunct_passed, block_passed}
 use Rattle.model_items.proofs.items.+items.Goals as goal
 
 pub find_in_block-returns-in-Err : goal.find_in_block-returns-in-Err

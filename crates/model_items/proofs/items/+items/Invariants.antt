@@ -1,7 +1,7 @@
 use Rattle.std.proofs.Common.{◌≡◌, true, drop, length, slice_index_or}
 use Rattle.gdp_tables.specs.declared.tri.Tri.TheVariants.{No}
 use Rattle.model_items.specs.Items.{conditions_of_disjunctions, conditions_of_disjuncts}
-use Rattle.model_items.specs.Picking.{readings, reading_at, are_disjunctions_below, are_disjuncts_below}
+use Rattle.model_items.specs.steps.Picking.{readings, reading_at, are_disjunctions_below, are_disjuncts_below}
 use Rattle.model_tree.specs.View.{disjunctions_of, disjuncts_of}
 use Rattle.model_items.proofs.items.+items.Given as goal
 

@@ -1,8 +1,8 @@
 use Rattle.std.proofs.Common.{arith, None, sym, ap, ◌∙◌}
-use Rattle.model_items.specs.Picking.{item_total}
+use Rattle.model_items.specs.steps.Picking.{item_total}
 use Rattle.model_tree.specs.Values.{model_tree}
 use Rattle.model_tree.specs.View.{block_of}
-use Rattle.model_items.proofs.Counted.{block_counted, few_items}
+use Rattle.model_items.proofs.CountingLemmas.{block_counted, few_items}
 use Rattle.model_items.proofs.items.item_count.Goals as goal
 
 pub count_in_block-requires : goal.count_in_block-requires

@@ -3,7 +3,7 @@ use Rattle.gdp_tables.specs.declared.tri.Tri.TheVariants.{No}
 use Rattle.propositions.specs.Tree.{atom}
 use Rattle.model_items.specs.Items.{conditions}
 use Rattle.model_tree.specs.Values.{model_tree}
-use Rattle.model_items.proofs.Picked.{reading_within, only_found, never_passed, block_below}
+use Rattle.model_items.proofs.PickingLemmas.{reading_within, only_found, never_passed, block_below}
 use Rattle.model_items.proofs.items.read_item.Goals as goal
 
 pub find_in_block-requires : goal.find_in_block-requires

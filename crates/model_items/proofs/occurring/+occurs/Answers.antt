@@ -1,4 +1,4 @@
-use Rattle.model_items.proofs.Members.{disjunction_added, disjunct_added}
+use Rattle.model_items.proofs.OccursLemmas.{disjunction_added, disjunct_added}
 use Rattle.model_items.proofs.occurring.+occurs.Goals as goal
 
 pub add_disjunctions-loop-disjunction-preserved : goal.add_disjunctions-loop-disjunction-preserved

@@ -1,4 +1,4 @@
-use Rattle.model_items.proofs.Members.{row_added}
+use Rattle.model_items.proofs.OccursLemmas.{row_added}
 use Rattle.model_items.proofs.occurring.add_rows.Goals as goal
 
 pub loop-row-preserved : goal.loop-row-preserved

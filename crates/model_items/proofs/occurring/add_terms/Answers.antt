@@ -1,4 +1,4 @@
-use Rattle.model_items.proofs.Members.{term_added}
+use Rattle.model_items.proofs.OccursLemmas.{term_added}
 use Rattle.model_items.proofs.occurring.add_terms.Goals as goal
 
 pub loop-term-preserved : goal.loop-term-preserved

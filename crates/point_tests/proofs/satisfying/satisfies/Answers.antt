@@ -1,6 +1,6 @@
 use Rattle.point_tests.specs.Satisfied.{point_of}
 use Rattle.model_tree.specs.Values.{model_tree}
-use Rattle.point_tests.proofs.Telling.{model_tells}
+use Rattle.point_tests.proofs.SatisfiedLemmas.{model_tells}
 use Rattle.point_tests.proofs.satisfying.satisfies.Goals as goal
 
 pub returns-clause-tells : goal.returns-clause-tells

@@ -6,11 +6,11 @@ use Rattle.int_linear.specs.Sums.{at}
 use Rattle.int_linear.specs.Terms.{dot}
 use Rattle.fractions.specs.Width.{fits, step_fits}
 use Rattle.lp_rows.specs.Holding.{sum_fits}
-use Rattle.point_tests.proofs.Quotients.{sum_is, all_true}
+use Rattle.point_tests.proofs.WorthLemmas.{sum_is, all_true}
 use Rattle.point_tests.proofs.valuing.goal_value.Goals as goal
 
-pub quotient-requires : goal.quotient-requires
-quotient-requires c =
+pub reduced-requires : goal.reduced-requires
+reduced-requires c =
     let over = c.args.at.now.over in
     let s : FitsSigned w128 c.args.scale = search rules in
     let o : FitsSigned w128 c.over-over.result = search rules in
@@ -30,7 +30,7 @@ returns-clause-value c =
     let below = rw (to_z-of_z w128 c.args.scale s, to_z-of_z w128 c.over-over.result o, c.over-over.ensures.value) at c.in-Some-product.ensures in
     let a : FitsSigned w128 c.in-Some.above = search rules in
     let b : FitsSigned w128 c.in-Some-product.below = search rules in
-    rw (to_z-of_z w128 c.in-Some.above a, to_z-of_z w128 c.in-Some-product.below b, above.1, below.1, sum.1) at c.quotient.ensures
+    rw (to_z-of_z w128 c.in-Some.above a, to_z-of_z w128 c.in-Some-product.below b, above.1, below.1, sum.1) at c.reduced.ensures
 
 pub returns-clause-fits : goal.returns-clause-fits
 returns-clause-fits c =

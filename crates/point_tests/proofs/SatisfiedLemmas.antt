@@ -1,4 +1,4 @@
--- What the verdict tells of the point.
+-- What the verdict tells of the point, and what a point of a model is.
 use Rattle.std.proofs.Common.{◌≡◌, ℕ, ◌+◌, ℤ, Bool, true, false, not, ◌&&◌, List, [], ◌∷◌, ◌++◌, map, Result, Ok, Err, refl, ◌∙◌, if◌then◌else◌}
 use Rattle.std.proofs.lemmas.List.{map-append}
 use Rattle.lp_rows.specs.Holding.{holds_at, row_fits}
@@ -13,6 +13,7 @@ use Rattle.point_tests.specs.Tests.{Test, passes, fails, verdict_of, test_of, si
 use Rattle.model_tree.specs.Tree.{BlockTree, block, Disjunctions, no_disjunctions, disjunction, Disjuncts, no_disjuncts, disjunct, below, below_disjunctions, below_disjuncts}
 use Rattle.model_tree.specs.Values.{ModelTree}
 use Rattle.model_tree.specs.Variables.{VarValue}
+use Rattle.model_tree.proofs.Bools.{both, and_true}
 use Rattle.point_tests.proofs.TestsLemmas.{first_of, verdict-append}
 
 and_assoc : (a b c : Bool) → ((a && b) && c) ≡ (a && (b && c))
@@ -116,3 +117,14 @@ pub model_tells : (m : ModelTree) (p : PointOf) → Tells (verdict_of (tests_of 
 model_tells m p =
     appended (tests_of_vars m.vars 0 p.nums p.over) (tests_of_block m.root p) (vars_take m.vars 0 p.nums p.over) (is_satisfied m.root p)
     (vars_tell m.vars 0 p.nums p.over) (block_tells m.root p)
+
+-- What a point of a model is, in parts: each variable takes its number, and the root block is satisfied.
+pub record PointParts (m : ModelTree) (p : PointOf) : Type 0 where
+  pub variables : vars_take m.vars 0 p.nums p.over ≡ true
+  pub root : is_satisfied m.root p ≡ true
+
+pub model_point_parts : (m : ModelTree) (p : PointOf) → is_model_point m p ≡ true → PointParts m p
+model_point_parts m p h = let parts = both (vars_take m.vars 0 p.nums p.over) (is_satisfied m.root p) h in record { variables = parts.0; root = parts.1 }
+
+pub model_point_of : (m : ModelTree) (p : PointOf) → PointParts m p → is_model_point m p ≡ true
+model_point_of m p parts = and_true (vars_take m.vars 0 p.nums p.over) (is_satisfied m.root p) parts.variables parts.root

@@ -1,10 +1,9 @@
 -- How items are counted and found while the tree is walked, and what the walk needs of the propositions.
 use Rattle.std.specs.Prelude.{ℕ, zero, suc, ◌+◌, Bool, true, ◌&&◌, List, [], ◌∷◌, length, map, Result, Ok, Err}
-use Rattle.std.specs.List.{list_all}
 use Rattle.gdp_tables.specs.declared.tri.Tri.{Tri}
 use Rattle.propositions.specs.Reading.{tri_of}
 use Rattle.propositions.specs.Tree.{PropTree}
-use Rattle.propositions.specs.Truth.{are_ids_below}
+use Rattle.model_tree.specs.Earlier.{name_only_first}
 use Rattle.model_tree.specs.Tree.{BlockTree, block, Disjunctions, no_disjunctions, disjunction, Disjuncts, no_disjuncts, disjunct}
 
 -- the reading of each condition where this is known of the Booleans
@@ -17,14 +16,10 @@ reading_at [] place = Err place
 reading_at (t ∷ ts) zero = Ok t
 reading_at (t ∷ ts) (suc place) = reading_at ts place
 
--- each proposition names only the first m Booleans
-abbrev pub are_props_below : ℕ → List (PropTree × ℕ) → Bool
-are_props_below m props = list_all (λ q. are_ids_below m q.0) props
-
--- the same of each in a block and below it
+-- each proposition in a block and below it names only the first m Booleans
 abbrev mutual
   pub is_block_below : ℕ → BlockTree → Bool
-  is_block_below m (block items ds) = are_props_below m items.props && are_disjunctions_below m ds
+  is_block_below m (block items ds) = name_only_first m items.props && are_disjunctions_below m ds
 
   pub are_disjunctions_below : ℕ → Disjunctions → Bool
   are_disjunctions_below m no_disjunctions = true

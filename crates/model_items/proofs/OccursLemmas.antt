@@ -7,7 +7,8 @@ use Rattle.lp_rows.specs.Rows.{RowValue}
 use Rattle.lp_rows.proofs.Steps.{from_place}
 use Rattle.model_tree.specs.declared.tree.Disjunct.{Disjunct}
 use Rattle.model_tree.specs.declared.tree.Disjunction.{Disjunction}
-use Rattle.model_items.specs.Occurs.{Adds, occurs_in_rows, occurs_in_block, occurs_below, occurs_within}
+use Rattle.model_items.specs.Occurs.{occurs_in_rows, occurs_in_block, occurs_below, occurs_within}
+use Rattle.model_items.specs.steps.Adding.{Adds}
 use Rattle.model_tree.specs.Scaling.{has_id}
 use Rattle.model_tree.specs.View.{disjunct_of, disjunction_of, disjuncts_of, disjunctions_of}
 

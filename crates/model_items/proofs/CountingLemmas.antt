@@ -7,7 +7,7 @@ use Rattle.propositions.specs.Tree.{PropTree, atom, negated, paired, listed}
 use Rattle.model_tree.specs.declared.tree.Disjunct.{Disjunct}
 use Rattle.model_tree.specs.declared.tree.Disjunction.{Disjunction}
 use Rattle.model_items.specs.Items.{enforced, conditions_in, conditions_of_disjunctions, conditions_of_disjuncts}
-use Rattle.model_items.specs.Picking.{item_total, item_total_below, item_total_within}
+use Rattle.model_items.specs.steps.Picking.{item_total, item_total_below, item_total_within}
 use Rattle.model_tree.specs.Sound.{are_rows_below, are_props_sound, is_filled, is_block_sound, are_disjunctions_sound, are_disjuncts_sound, are_last_of, IsSound}
 use Rattle.model_tree.specs.Tree.{DisjunctHead, BlockTree, block, Disjunctions, no_disjunctions, disjunction, Disjuncts, no_disjuncts, disjunct, nodes_of_props, node_total, node_total_below, node_total_within, below, below_disjunctions, below_disjuncts}
 use Rattle.model_tree.specs.Values.{ModelTree}

@@ -7,9 +7,11 @@ use Rattle.propositions.specs.Truth.{truth_of, truths_of, are_all_true, true_cou
 use Rattle.model_tree.specs.declared.tree.Mode.{Mode}
 use Rattle.model_tree.specs.declared.tree.Mode.TheVariants.{Xor, Or}
 use Rattle.model_items.specs.Items.{enforced, indicators_of, selection, each_implies, choice, conditions_in, conditions_of_disjunctions, conditions_of_disjuncts, conditions, item_count_of, condition_of}
-use Rattle.point_tests.specs.Satisfied.{PointOf, vars_take, rows_hold, props_hold, true_count, mode_allows, is_off, are_disjunctions_off, are_disjuncts_off, is_satisfied, are_disjunctions_satisfied, are_disjuncts_satisfied, is_model_point}
+use Rattle.point_tests.specs.Satisfied.{PointOf, rows_hold, props_hold, true_count, mode_allows, is_off, are_disjunctions_off, are_disjuncts_off, is_satisfied, are_disjunctions_satisfied, are_disjuncts_satisfied, is_model_point}
 use Rattle.model_tree.specs.Tree.{BlockTree, block, Disjunctions, no_disjunctions, disjunction, Disjuncts, no_disjuncts, disjunct}
 use Rattle.model_tree.specs.Values.{ModelTree}
+use Rattle.propositions.proofs.Layers.{count_more}
+use Rattle.point_tests.proofs.SatisfiedLemmas.{model_point_parts}
 use Rattle.model_tree.proofs.Bools.{first_holds, second_holds, and_true}
 
 or_left : (a b : Bool) → a ≡ true → (a || b) ≡ true
@@ -21,7 +23,7 @@ or_right true b h = refl
 or_right false b h = h
 
 -- every condition is true
-abbrev meets : (ℕ → Bool) → List PropTree → Bool
+abbrev pub meets : (ℕ → Bool) → List PropTree → Bool
 meets y cs = list_all (λ c. truth_of c y) cs
 
 meets_both : (y : ℕ → Bool) (cs ds : List PropTree) → meets y cs ≡ true → meets y ds ≡ true → meets y (cs ++ ds) ≡ true
@@ -35,7 +37,7 @@ meets_at y (c ∷ cs) zero other h k = first_holds (truth_of c y) (meets y cs) h
 meets_at y (c ∷ cs) (suc n) other h k = meets_at y cs n other (second_holds (truth_of c y) (meets y cs) h) (omega arith)
 
 -- the block stands at the root, or its indicator is true
-abbrev is_on : (ℕ → Bool) → Option ℕ → Bool
+abbrev pub is_on : (ℕ → Bool) → Option ℕ → Bool
 is_on y None = true
 is_on y (Some k) = y k
 
@@ -43,11 +45,12 @@ adds : (b : Bool) (n : ℕ) → from_bool b + n ≡ (if b then suc n else n)
 adds true n = omega arith
 adds false n = omega arith
 
-counted : (js : Disjuncts) (y : ℕ → Bool) → count_of (truths_of (indicators_of js) y) ≡ true_count js y
+pub counted : (js : Disjuncts) (y : ℕ → Bool) → count_of (truths_of (indicators_of js) y) ≡ true_count js y
 counted no_disjuncts y = refl
-counted (disjunct head b js) y = rw (counted js y) (adds (y head.indicator) (true_count js y))
+counted (disjunct head b js) y =
+    count_more (λ b. b) (y head.indicator) (truths_of (indicators_of js) y) ∙ ap (λ n. from_bool (y head.indicator) + n) (counted js y) ∙ adds (y head.indicator) (true_count js y)
 
-selected : (mode : Mode) (js : Disjuncts) (y : ℕ → Bool) → truth_of (selection mode js) y ≡ mode_allows mode (true_count js y)
+pub selected : (mode : Mode) (js : Disjuncts) (y : ℕ → Bool) → truth_of (selection mode js) y ≡ mode_allows mode (true_count js y)
 selected Xor js y = ap (λ n. nat_eq n 1) (counted js y)
 selected Or js y = ap (λ n. nat_le 1 n) (counted js y)
 
@@ -158,4 +161,4 @@ mutual
 pub point_meets : (m : ModelTree) (p : PointOf) → is_model_point m p ≡ true → (place : ℕ) → place < item_count_of m → truth_of (condition_of m place) p.truths ≡ true
 point_meets m p h place within =
     meets_at p.truths (conditions m) place (atom 0)
-    (block_on m.root None p refl (second_holds (vars_take m.vars 0 p.nums p.over) (is_satisfied m.root p) h)) within
+    (block_on m.root None p refl (model_point_parts m p h).root) within

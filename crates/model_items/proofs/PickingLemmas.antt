@@ -10,8 +10,9 @@ use Rattle.propositions.specs.Truth.{are_ids_below}
 use Rattle.propositions.specs.View.{prop_tree}
 use Rattle.model_tree.specs.declared.tree.Disjunct.{Disjunct}
 use Rattle.model_tree.specs.declared.tree.Disjunction.{Disjunction}
+use Rattle.model_tree.specs.Earlier.{name_only_first}
 use Rattle.model_items.specs.Items.{enforced, choice, conditions_in, conditions_of_disjunctions, conditions_of_disjuncts}
-use Rattle.model_items.specs.Picking.{readings, reading_at, are_props_below, is_block_below, are_disjunctions_below, are_disjuncts_below}
+use Rattle.model_items.specs.steps.Picking.{readings, reading_at, is_block_below, are_disjunctions_below, are_disjuncts_below}
 use Rattle.model_tree.specs.PropLimits.{is_prop_sound, has_small_numbers, is_shallow_prop, has_fair_lists}
 use Rattle.model_tree.specs.Sound.{are_rows_below, are_props_sound, is_filled, is_block_sound, are_disjunctions_sound, are_disjuncts_sound}
 use Rattle.model_tree.specs.Tree.{BlockTree, block, Disjunctions, no_disjunctions, disjunction, Disjuncts, no_disjuncts, disjunct}
@@ -132,10 +133,10 @@ pub never_passed : (m : ℕ) (t u : Tri) (r : Result Tri ℕ) → Err m ≡ r �
 never_passed m t u r h k = let e = h ∙ k in cc
 
 -- propositions that keep the limits name only Booleans that there are
-props_below : (m : ℕ) (qs : List (PropTree × ℕ)) → are_props_sound m qs ≡ true → are_props_below m qs ≡ true
+props_below : (m : ℕ) (qs : List (PropTree × ℕ)) → are_props_sound m qs ≡ true → name_only_first m qs ≡ true
 props_below m [] h = refl
 props_below m (q ∷ qs) h =
-    and_true (are_ids_below m q.0) (are_props_below m qs)
+    and_true (are_ids_below m q.0) (name_only_first m qs)
     (first_holds (are_ids_below m q.0) (has_small_numbers q.0 && (is_shallow_prop q.0 && has_fair_lists q.0)) (first_holds (is_prop_sound m q.0) (are_props_sound m qs) h))
     (props_below m qs (second_holds (is_prop_sound m q.0) (are_props_sound m qs) h))
 
@@ -143,7 +144,7 @@ mutual
   pub block_below : (n m : ℕ) (b : BlockTree) → is_block_sound n m b ≡ true → is_block_below m b ≡ true
   block_below n m (block items ds) h =
       let k = second_holds (are_rows_below n items.rows) (are_props_sound m items.props && are_disjunctions_sound n m ds) h in
-      and_true (are_props_below m items.props) (are_disjunctions_below m ds)
+      and_true (name_only_first m items.props) (are_disjunctions_below m ds)
       (props_below m items.props (first_holds (are_props_sound m items.props) (are_disjunctions_sound n m ds) k))
       (disjunctions_below n m ds (second_holds (are_props_sound m items.props) (are_disjunctions_sound n m ds) k))
 

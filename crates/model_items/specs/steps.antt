@@ -1,0 +1,3 @@
+-- What only the walks over a model need.
+pub mod Adding
+pub mod Picking
