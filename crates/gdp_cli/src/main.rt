@@ -1,33 +1,14 @@
-//! The program `gdp`: linear generalised disjunctive programs, read, tested and told about.
+//! The program `gdp`: linear generalised disjunctive programs, read, tested and formatted.
 //!
-//! All that it does is [`run`](run::run): from the words of the command line, a shelf of texts and two sinks to a
-//! status. Its contract in one sentence: the words pick a command, the command answers a status and a text by a table
-//! over the texts behind its names, that text goes to `out` or to `err`, and a read or write is reported as failed only
-//! where a count of faults rose.
-//!
-//! Read `specs/Words.antt`, `specs/Test.antt` and `specs/Format.antt`, then `run.rt`, `streams.rt`, `test_command.rt` and
-//! `format_command.rt`.
+//! `main` makes a shelf over the host's files and two sinks over its streams, and calls [`run`] of `gdp_commands` with the
+//! words of the command line. All else is `run`, whose contract says what the program does.
 #![tactic(auto)]
 
-mod format_command;
-mod messages;
-mod run;
-mod status;
-mod streams;
-mod test_command;
-#[cfg(test)]
-mod tests;
-mod texts;
-mod words;
-
+use gdp_commands::{Status, run, say};
 use gdp_io::{FileShelf, OutSink};
-use run::run;
-use status::Status;
-use std::alloc::Global;
 use std::env::Env;
 use std::process::ExitCode;
 use std::{env, io};
-use streams::say;
 
 /// The status where the words can't be had for another cause than running out of memory, as where one is not UTF-8.
 const NO_WORDS: u8 = 9;

@@ -1,5 +1,0 @@
-use Rattle.gdp_cli.proofs.OneAnswer.{one_test}
-use Rattle.gdp_cli.proofs.test_command.one_answer.Goals as goal
-
-pub returns : goal.returns
-returns c = one_test

@@ -1,8 +1,0 @@
--- The form that a command was read from.
-use Rattle.gdp_cli.specs.declared.words.Command.{Command}
-use Rattle.gdp_cli.specs.declared.words.Command.TheVariants.{Test, Format}
-use Rattle.gdp_cli.specs.Words.{Form}
-
-abbrev pub form_of : Command → Form
-form_of (Test model point) = Form.Test model.now point.now
-form_of (Format model) = Form.Format model.now

@@ -1,0 +1,6 @@
+mod Behind
+mod Formatting
+mod OneAnswer
+mod Opened
+mod Testing
+mod Unread

@@ -1,0 +1,83 @@
+-- What a command answers where a text was not read.
+use Rattle.std.proofs.Common.{◌≡◌, ℕ, ◌≤◌, arith, List, Result, Ok, Err, refl, sym, ◌∙◌, subst, inl, inr}
+use Rattle.std.specs.Result.{IfOk}
+use Rattle.outcomes.specs.declared.memory.Memory.{Memory}
+use Rattle.gdp_io.specs.Causes.{Rose}
+use Rattle.gdp_io.specs.Shelf.{Contents, SameContents, IsBehind}
+use Rattle.gdp_io.specs.declared.shelves.ReadAllError.{ReadAllError}
+use Rattle.gdp_io.specs.declared.shelves.ReadAllError.TheVariants as Error
+use Rattle.gdp_commands.specs.Answers.{Says, SaysFault, IsReplyTo}
+use Rattle.gdp_commands.specs.Messages.{read_fault, too_long}
+use Rattle.gdp_commands.specs.Replies.{ReadFailed, text_of}
+use Rattle.gdp_commands.specs.Statuses.{IsWorked}
+use Rattle.gdp_commands.specs.Texts.{IsLong, IsLongBehind}
+use Rattle.gdp_commands.specs.Words.{Form}
+use Rattle.gdp_commands.specs.Words.Form.{Test, Format}
+use Rattle.gdp_commands.specs.declared.replies.Reply.{Reply}
+use Rattle.gdp_commands.specs.declared.status.Status.{Status}
+use Rattle.gdp_commands.specs.declared.status.Status.TheVariants as status
+use Rattle.gdp_commands.proofs.Behind.{some_text, long_text}
+
+-- the answer by the cause
+if_failed : (form : Form) (contents : Contents) (before now : List ℕ → ℕ) (error : ReadAllError) (name : List ℕ) (answer : Status) (text : List ℕ) →
+    (error ≡ Error.TooLong → Says form contents status.Text (too_long name)) →
+    (error ≡ Error.Read → SaysFault form contents before now (read_fault name)) →
+    ReadFailed error name answer text → IsReplyTo form contents before now answer text
+if_failed form contents before now Error.Read name answer text if_long if_fault failed = record {
+  one = inr failed.0;
+  says = λ worked. absurd (subst IsWorked failed.0 worked);
+  fault = λ is. subst (SaysFault form contents before now) (sym failed.1) (if_fault refl);
+}
+if_failed form contents before now Error.TooLong name answer text if_long if_fault failed = record {
+  one = inl (subst IsWorked (sym failed.0) tt);
+  says = λ worked. subst (λ (s : Status). Says form contents s text) (sym failed.0) (subst (Says form contents status.Text) (sym failed.1) (if_long refl));
+  fault = λ is. absurd (cc (is, failed.0));
+}
+if_failed form contents before now Error.Memory name answer text if_long if_fault failed = absurd failed
+
+-- the reply, which may run out of memory
+if_replied : (form : Form) (contents : Contents) (before now : List ℕ → ℕ) (error : ReadAllError) (name : List ℕ) (result : Result Reply Memory) →
+    (error ≡ Error.TooLong → Says form contents status.Text (too_long name)) →
+    (error ≡ Error.Read → SaysFault form contents before now (read_fault name)) →
+    IfOk result (λ reply. ReadFailed error name reply.status (text_of reply)) →
+    IfOk result (λ reply. IsReplyTo form contents before now reply.status (text_of reply))
+if_replied form contents before now error name (Err memory) if_long if_fault failed = tt
+if_replied form contents before now error name (Ok reply) if_long if_fault failed =
+    if_failed form contents before now error name reply.status (text_of reply) if_long if_fault failed
+
+-- what `format` answers where its text was not read
+pub format_unread : (contents : Contents) (before now : List ℕ → ℕ) (model : List ℕ) (error : ReadAllError) (result : Result Reply Memory) →
+    (error ≡ Error.TooLong → IsLongBehind contents model) → (error ≡ Error.Read → Rose (before model) (now model)) →
+    IfOk result (λ reply. ReadFailed error model reply.status (text_of reply)) →
+    IfOk result (λ reply. IsReplyTo (Format model) contents before now reply.status (text_of reply))
+format_unread contents before now model error result if_long if_rose =
+    if_replied (Format model) contents before now error model result
+    (λ is. let long = long_text contents model (if_long is) in (long.0, long.1, inl (long.2, (refl, refl))))
+    (λ is. (model, refl, tt, if_rose is, refl))
+
+-- what `test` answers where the model's text was not read
+pub model_unread : (contents : Contents) (before now : List ℕ → ℕ) (model point : List ℕ) (error : ReadAllError) (result : Result Reply Memory) →
+    (error ≡ Error.TooLong → IsLongBehind contents model) → (error ≡ Error.Read → Rose (before model) (now model)) →
+    IfOk result (λ reply. ReadFailed error model reply.status (text_of reply)) →
+    IfOk result (λ reply. IsReplyTo (Test model point) contents before now reply.status (text_of reply))
+model_unread contents before now model point error result if_long if_rose =
+    if_replied (Test model point) contents before now error model result
+    (λ is. let long = long_text contents model (if_long is) in let other = some_text contents point in
+    (long.0, long.1, (other.0, other.1, inl (long.2, (refl, refl)))))
+    (λ is. (model, inl refl, inl refl, if_rose is, refl))
+
+-- what `test` answers where the model's text was read, and the point's was not
+pub point_unread : (contents between : Contents) (before now : List ℕ → ℕ) (model point model_text : List ℕ) (error : ReadAllError) (result : Result Reply Memory) →
+    SameContents contents between → IsBehind contents model model_text → ¬ IsLong model_text →
+    (error ≡ Error.TooLong → IsLongBehind between point) → (error ≡ Error.Read → Rose (before point) (now point)) →
+    IfOk result (λ reply. ReadFailed error point reply.status (text_of reply)) →
+    IfOk result (λ reply. IsReplyTo (Test model point) contents before now reply.status (text_of reply))
+point_unread contents between before now model point model_text error result same is_model short if_long if_rose =
+    if_replied (Test model point) contents before now error point result
+    (λ is. let long = long_text contents point (λ all revealed. if_long is all (same point ∙ revealed)) in
+    (model_text, is_model, (long.0, long.1, inr (short, inl (long.2, (refl, refl))))))
+    (λ is. (point, inr refl, inr (λ all revealed long. short (subst IsLong (sym (is_model all revealed)) long)), if_rose is, refl))
+
+-- a count that rose after another call rose
+pub risen : (before between now : ℕ) → before ≤ between → Rose between now → Rose before now
+risen before between now later rose = omega arith
