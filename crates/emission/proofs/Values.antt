@@ -75,7 +75,7 @@ value-lits c (l ∷ ls) [] d w h = absurd h
 value-lits c (l ∷ ls) (b ∷ bs) d w h =
     let i = value-lits c ls bs d w h.1 in
     let more : value (literal_times c l) d w +ℤ value (literals_times c ls) d w ≡ c *ℤ (pos (from_bool b + true_count bs) *ℤ d) =
-        rw (value-lit c l d w, h.0, i, pick_one b d, pos_add (from_bool b) (true_count bs) d) (simp products (omega (arith, ints))) in
+    rw (value-lit c l d w, h.0, i, pick_one b d, pos_add (from_bool b) (true_count bs) d) (simp products (omega (arith, ints))) in
     value-plus (literal_times c l) (literals_times c ls) d w ∙ more ∙ ap (λ n. c *ℤ (pos n *ℤ d)) (sym (count_more (λ x. x) b bs))
 
 pub read_length : (ls : List Literal) (bs : List Bool) (d : ℤ) (w : ℕ → ℤ) → Read ls bs d w → length ls ≡ length bs
