@@ -1,6 +1,6 @@
 //! What holds at a node of a search.
 
-use lists::List;
+use item_lists::List;
 use lp_rows::{ColList, Terms};
 
 /// A row: the sum of its terms is at most its bound.

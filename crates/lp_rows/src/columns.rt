@@ -1,7 +1,7 @@
 //! Columns of a linear program, and the places at which a number was wide.
 
 use crate::kinds::Kind;
-use lists::List;
+use item_lists::List;
 
 /// Which sign a column's numbers may have.
 #[derive(Clone, Copy, Debug, PartialEq, Eq)]

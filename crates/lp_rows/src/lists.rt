@@ -2,7 +2,7 @@
 
 ghost use Rattle.std.specs.Prelude.{◌≡◌, ◌<◌, ◌≤◌, ◌==◌, [], ◌∷◌, ◌++◌, length, IfOk, IsOk, OnOk, OnErr};
 
-use lists::List;
+use item_lists::List;
 use outcomes::Memory;
 use smallvec::SmallVec;
 use std::alloc::Global;
