@@ -38,7 +38,7 @@ pub fn bytes(alloc: Global, text: &str) -> Result<Vec<u8>, Trouble> {
     Ok(bytes)
 }
 
-/// A text of so many blanks.
+/// A text of that many blanks.
 pub fn blanks(alloc: Global, count: &str) -> Result<Vec<u8>, Trouble> {
     let Ok(count) = count.parse::<usize>() else {
         return Err(Trouble::Line);

@@ -1,0 +1,9 @@
+pub mod Blocks
+pub mod Chosen
+pub mod Compiled
+pub mod Cuts
+pub mod Laws
+pub mod Mixes
+pub mod Ranges
+pub mod Rewritten
+pub mod View
