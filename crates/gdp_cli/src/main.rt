@@ -10,7 +10,7 @@ use std::env::Env;
 use std::process::ExitCode;
 use std::{env, io};
 
-/// The status where the words can't be had for another cause than running out of memory, as where one is not UTF-8.
+/// The status where the words can't be had for another cause than memory, as where one is not UTF-8.
 const NO_WORDS: u8 = 9;
 
 /// The words after the program's name.

@@ -27,7 +27,7 @@ IsOut Write = ⊥
 IsOut Words = ⊥
 IsOut Memory = ⊥
 
--- a text or a model is refused, and `err` is told why
+-- a text or a model is refused, and `err` gets the reason
 abbrev pub IsRefused : Status → Type 0
 IsRefused Text = ⊤
 IsRefused Rewrite = ⊤
