@@ -9,7 +9,7 @@ use Rattle.propositions.specs.Tree.{PropTree}
 use Rattle.model_tree.specs.declared.errors.BuildError.TheVariants as refusal
 use Rattle.lp_rows.specs.declared.kinds.Kind.{Kind}
 use Rattle.model_tree.specs.declared.bounds.Bound.{Bound}
-use Rattle.model_builder.specs.Building.{BuildingValue, OpenBlock, OpenDisjunction, empty_block, is_at_root, is_taken, refusal_of_var, refusal_of_row, stored_row}
+use Rattle.model_builder.specs.Building.{BuildingValue, OpenBlock, OpenDisjunction, empty_block, is_at_root, is_taken, refusal_of_var, refusal_of_row}
 use Rattle.model_builder.specs.Nesting.{refusal_of_boolean, refusal_of_goal, refusal_of_disjunct, with_disjunct, open_disjunct_in, closed_disjunct, closed_disjunction, close_disjunct, close_opened}
 use Rattle.model_tree.specs.Scaling.{stored_row, stored_goal}
 use Rattle.model_builder.specs.Props.{refusal_of_prop}
