@@ -11,7 +11,7 @@ use Rattle.lp_rows.specs.Rows.{RowValue}
 use Rattle.model_tree.specs.declared.bounds.Bound.{Bound}
 use Rattle.model_tree.specs.declared.errors.BuildError.{BuildError}
 use Rattle.model_tree.specs.declared.errors.BuildError.TheVariants as refusal
-use Rattle.model_builder.specs.Building.{BuildingValue, OpenBlock, OpenDisjunction, is_at_root, is_taken, refusal_of_var, refusal_of_row, refusal_of_finish, goal_of, built_model}
+use Rattle.model_builder.specs.Building.{BuildingValue, OpenBlock, OpenDisjunction, is_at_root, is_taken, refusal_of_var, refusal_of_row, refusal_of_finish, built_model}
 use Rattle.model_tree.specs.Scaling.{stored_row}
 use Rattle.model_tree.specs.Sound.{is_empty}
 use Rattle.model_builder.specs.Nesting.{refusal_of_boolean, refusal_of_goal, refusal_of_disjunct, with_disjunct, open_disjunct_in, closed_disjunct, closed_disjunction, close_disjunct, close_opened}
@@ -22,15 +22,13 @@ use Rattle.model_tree.specs.Variables.{VarValue, BooleanValue}
 use Rattle.gdp_grammar.specs.declared.cause.ReadCause.{ReadCause}
 use Rattle.gdp_grammar.specs.declared.cause.ReadCause.TheVariants as cause
 use Rattle.text_grammar.specs.Outcomes.{refused_where}
-use Rattle.gdp_grammar.specs.Declaring.{is_blank, form_on, end_value, var_in, boolean_in, goal_in, vars_from, booleans_from, goals_from, IsGoalOf}
+use Rattle.gdp_grammar.specs.Declaring.{is_blank, form_on, end_value, var_in, boolean_in, goal_in, vars_from, booleans_from, goals_from}
 use Rattle.gdp_grammar.specs.Forms.{Form, Var, Boolean, Goal, Row, Logic, Disjunction, Disjunct, End, Signed, Summand, form_of}
-use Rattle.gdp_grammar.specs.Laws.{LaidOut}
 use Rattle.gdp_grammar.specs.Lines.{without_comment}
-use Rattle.text_grammar.specs.Lines.{lines_of}
 use Rattle.gdp_grammar.specs.Numerals.{value_of}
 use Rattle.gdp_grammar.specs.PropNames.{are_known, tree_in}
 use Rattle.gdp_grammar.specs.PropReading.{prop_of}
-use Rattle.gdp_grammar.specs.Reading.{Taken, nothing_taken, end_of, after_call, with_var, terms_of, constant_value, with_goal, with_row, with_logic, with_form, is_header, with_header, with_tokens, with_content, with_line, finished, model_after}
+use Rattle.gdp_grammar.specs.Reading.{Taken, end_of, after_call, with_var, terms_of, constant_value, with_goal, with_row, with_logic, with_form, is_header, with_header, with_tokens, with_content, with_line, finished, model_after}
 use Rattle.text_grammar.specs.Outcomes.{or_cause}
 use Rattle.text_grammar.specs.Grammars.{LeadsBy}
 use Rattle.gdp_grammar.specs.Spelling.{model_grammar}
@@ -39,15 +37,15 @@ use Rattle.text_grammar.specs.Words.{words_of, is_some_word}
 use Rattle.gdp_grammar.proofs.Sums.{bind_ok}
 
 -- the marks of the goal that was given
-abbrev goal_marks : Option GoalValue → List ℕ
+abbrev pub goal_marks : Option GoalValue → List ℕ
 goal_marks None = []
 goal_marks (Some goal) = goal.mark ∷ []
 
 -- what a builder has after a call that adds these variables, Booleans and goals
-record Grows (old new : BuildingValue) (vars : List VarValue) (booleans : List BooleanValue) (goals : List ℕ) : Type 0 where
-  vars_after : new.vars ≡ old.vars ++ vars
-  booleans_after : new.booleans ≡ old.booleans ++ booleans
-  goals_after : goal_marks new.goal ≡ goal_marks old.goal ++ goals
+pub record Grows (old new : BuildingValue) (vars : List VarValue) (booleans : List BooleanValue) (goals : List ℕ) : Type 0 where
+  pub vars_after : new.vars ≡ old.vars ++ vars
+  pub booleans_after : new.booleans ≡ old.booleans ++ booleans
+  pub goals_after : goal_marks new.goal ≡ goal_marks old.goal ++ goals
 
 grows_none : (old new : BuildingValue) → old ≡ new → Grows old new [] [] []
 grows_none old new same = subst (λ (b : BuildingValue). Grows old b [] [] []) same
@@ -70,12 +68,12 @@ adds_boolean old made new x vars booleans goal same =
     (record { vars_after = vars ∙ sym (append-nil old.vars); booleans_after = booleans; goals_after = ap goal_marks goal ∙ sym (append-nil (goal_marks old.goal)) })
 
 -- a call that is not refused leaves what it makes
-called : {A B : Type 0} (refusal : Option BuildError) (old : B) (answer : A) (made new : B) → after_call (unless refusal old answer made) ≡ Ok new → made ≡ new
+pub called : {A B : Type 0} (refusal : Option BuildError) (old : B) (answer : A) (made new : B) → after_call (unless refusal old answer made) ≡ Ok new → made ≡ new
 called (Some r) old answer made new e = absurd (cc e)
 called None old answer made new e = cc e
 
 -- the value that is there
-valued : {A : Type 0} (cause : ReadCause) (o : Option A) (x : A) → or_cause cause o ≡ Ok x → o ≡ Some x
+pub valued : {A : Type 0} (cause : ReadCause) (o : Option A) (x : A) → or_cause cause o ≡ Ok x → o ≡ Some x
 valued c None x e = absurd (cc e)
 valued {A} c (Some y) x e = ap (λ (z : A). some_of z) (cc e)
   where
@@ -182,9 +180,9 @@ form_grows b new line (Disjunct name) e = disjunct_grows b new line name b.opene
 form_grows b new line End e = end_grows b new b.opened e
 
 -- what a line after the header adds
-record Adds (t next : Taken) (vars : List VarValue) (booleans : List BooleanValue) (goals : List ℕ) : Type 0 where
-  headed : next.headed ≡ t.headed
-  grows : Grows t.building next.building vars booleans goals
+pub record Adds (t next : Taken) (vars : List VarValue) (booleans : List BooleanValue) (goals : List ℕ) : Type 0 where
+  pub headed : next.headed ≡ t.headed
+  pub grows : Grows t.building next.building vars booleans goals
 
 tokens_add : (t next : Taken) (line : ℕ) (ps : List Piece) → with_tokens t line ps ≡ Ok next → Adds t next (var_in line (form_of ps)) (boolean_in line (form_of ps)) (goal_in line (form_of ps))
 tokens_add t next line [] e =
@@ -201,23 +199,23 @@ tokens_add t next line (p ∷ ps) e =
     (record { headed = refl; grows = form_grows t.building building.0 line form.0 building.1 }))
 
 -- a line adds what its content says
-content_adds : (t next : Taken) (line : ℕ) (l : List ℕ) → with_line t line l ≡ Ok next → with_content t line (without_comment l) ≡ Ok next
+pub content_adds : (t next : Taken) (line : ℕ) (l : List ℕ) → with_line t line l ≡ Ok next → with_content t line (without_comment l) ≡ Ok next
 unfolding with_line
 content_adds t next line l e = e
 
 -- a line after the header, and one before it
-headed_line : (t : Taken) (line : ℕ) (content : List ℕ) → t.headed ≡ true → with_content t line content ≡ with_tokens t line (tokens_of content)
+pub headed_line : (t : Taken) (line : ℕ) (content : List ℕ) → t.headed ≡ true → with_content t line content ≡ with_tokens t line (tokens_of content)
 headed_line t line content h = ap (λ (b : Bool). if b then with_tokens t line (tokens_of content) else with_header t (words_of content)) h
 
-first_line : (t : Taken) (line : ℕ) (content : List ℕ) → t.headed ≡ false → with_content t line content ≡ with_header t (words_of content)
+pub first_line : (t : Taken) (line : ℕ) (content : List ℕ) → t.headed ≡ false → with_content t line content ≡ with_header t (words_of content)
 first_line t line content h = ap (λ (b : Bool). if b then with_tokens t line (tokens_of content) else with_header t (words_of content)) h
 
-line_adds : (t next : Taken) (line : ℕ) (l : List ℕ) → t.headed ≡ true → with_line t line l ≡ Ok next → Adds t next (var_in line (form_on l)) (boolean_in line (form_on l)) (goal_in line (form_on l))
+pub line_adds : (t next : Taken) (line : ℕ) (l : List ℕ) → t.headed ≡ true → with_line t line l ≡ Ok next → Adds t next (var_in line (form_on l)) (boolean_in line (form_on l)) (goal_in line (form_on l))
 line_adds t next line l h e =
     tokens_add t next line (tokens_of (without_comment l)) (sym (headed_line t line (without_comment l) h) ∙ content_adds t next line l e)
 
 -- the lines after the header add their variables and Booleans
-lines_add : (line : ℕ) (t after : Taken) (ls : List (List ℕ)) → t.headed ≡ true → LeadsBy model_grammar line t ls after → Grows t.building after.building (vars_from line ls) (booleans_from line ls) (goals_from line ls)
+pub lines_add : (line : ℕ) (t after : Taken) (ls : List (List ℕ)) → t.headed ≡ true → LeadsBy model_grammar line t ls after → Grows t.building after.building (vars_from line ls) (booleans_from line ls) (goals_from line ls)
 lines_add line t after [] h e = grows_none t.building after.building (ap (λ (x : Taken). x.building) e)
 lines_add line t after (l ∷ ls) h lead =
     let one = line_adds t lead.0 line l h lead.1 in
@@ -229,21 +227,21 @@ lines_add line t after (l ∷ ls) h lead =
     }
 
 -- the test was passed
-passed : (b : Bool) (cause : ReadCause) (u : Unit {0}) → refused_where (not b) cause ≡ Ok u → b ≡ true
+pub passed : (b : Bool) (cause : ReadCause) (u : Unit {0}) → refused_where (not b) cause ≡ Ok u → b ≡ true
 passed true c u e = refl
 passed false c u e = absurd (cc e)
 
 -- the lines up to the header, and what leads on from it
-record Headed (line : ℕ) (t after : Taken) (ls : List (List ℕ)) : Type 0 where
-  blank : List (List ℕ)
-  header : List ℕ
-  others : List (List ℕ)
-  cut : ls ≡ blank ++ header ∷ others
-  are_blank : list_all is_blank blank ≡ true
-  is_first : is_header (words_of (without_comment header)) ≡ true
-  lead : LeadsBy model_grammar (line + length blank + 1) (record t { headed = true }) others after
+pub record Headed (line : ℕ) (t after : Taken) (ls : List (List ℕ)) : Type 0 where
+  pub blank : List (List ℕ)
+  pub header : List ℕ
+  pub others : List (List ℕ)
+  pub cut : ls ≡ blank ++ header ∷ others
+  pub are_blank : list_all is_blank blank ≡ true
+  pub is_first : is_header (words_of (without_comment header)) ≡ true
+  pub lead : LeadsBy model_grammar (line + length blank + 1) (record t { headed = true }) others after
 
-headed : (line : ℕ) (t after : Taken) (ls : List (List ℕ)) → t.headed ≡ false → after.headed ≡ true → LeadsBy model_grammar line t ls after → Headed line t after ls
+pub headed : (line : ℕ) (t after : Taken) (ls : List (List ℕ)) → t.headed ≡ false → after.headed ≡ true → LeadsBy model_grammar line t ls after → Headed line t after ls
 headed line t after [] off on e =
     let both : false ≡ true = sym off ∙ ap (λ (x : Taken). x.headed) e ∙ on in
     absurd (cc both)
@@ -282,36 +280,12 @@ made_model : (refusal : Option BuildError) (made m : ModelTree) → finished (re
 made_model (Some r) made m e = absurd (cc e)
 made_model None made m e = cc e
 
-record Ends (t : Taken) (m : ModelTree) : Type 0 where
-  headed : t.headed ≡ true
-  made : built_model t.building ≡ m
+pub record Ends (t : Taken) (m : ModelTree) : Type 0 where
+  pub headed : t.headed ≡ true
+  pub made : built_model t.building ≡ m
 
-ends : (t : Taken) (m : ModelTree) → model_after t ≡ Ok m → Ends t m
+pub ends : (t : Taken) (m : ModelTree) → model_after t ≡ Ok m → Ends t m
 unfolding model_after
 ends t m e =
     let test = bind_ok (refused_where (not t.headed) cause.Header) _ m e in
     record { headed = passed t.headed cause.Header test.0 test.1; made = made_model (refusal_of_finish t.building) (built_model t.building) m test.2 }
-
--- the goal of the lines with the marks of the goal that was given
-goal_is : (given : Option GoalValue) → IsGoalOf (goal_marks given) (goal_of given)
-goal_is None = refl
-goal_is (Some goal) = refl
-
-pub laid_out : LaidOut
-laid_out text m s =
-    let end = ends s.taken m s.gives in
-    let h = headed 1 nothing_taken s.taken (lines_of text) refl end.headed s.leads in
-    let grown = lines_add (1 + length h.blank + 1) (record nothing_taken { headed = true }) s.taken h.others refl h.lead in
-    let line : 1 + length h.blank + 1 ≡ length h.blank + 2 = omega (arith) in
-    record {
-      blank = h.blank;
-      header = h.header;
-      lines = h.others;
-      cut = h.cut;
-      are_blank = h.are_blank;
-      is_first = h.is_first;
-      vars = ap (λ (x : ModelTree). x.vars) (sym end.made) ∙ grown.vars_after ∙ ap (λ (n : ℕ). vars_from n h.others) line;
-      booleans = ap (λ (x : ModelTree). x.booleans) (sym end.made) ∙ grown.booleans_after ∙ ap (λ (n : ℕ). booleans_from n h.others) line;
-      goal = subst (λ (xs : List ℕ). IsGoalOf xs m.goal) (grown.goals_after ∙ ap (λ (n : ℕ). goals_from n h.others) line)
-          (subst (λ (x : ModelTree). IsGoalOf (goal_marks s.taken.building.goal) x.goal) end.made (goal_is s.taken.building.goal));
-    }

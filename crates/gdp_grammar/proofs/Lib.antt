@@ -5,6 +5,7 @@ pub mod Euclid
 pub mod FormsGiven
 pub mod Grown
 pub mod Holding
+pub mod KnownLemmas
 pub mod LinesAgain
 pub mod LinesLead
 pub mod Lowest
@@ -28,6 +29,8 @@ pub mod PropSizes
 pub mod PropsLead
 pub mod Rebuilt
 pub mod Respelled
+pub mod SaidLemmas
+pub mod SaidLines
 pub mod Scales
 pub mod Sums
 pub mod TreeLead

@@ -41,6 +41,7 @@ use Rattle.gdp_grammar.specs.Tokens.{Piece, token_of, tokens_of}
 use Rattle.text_grammar.specs.Words.{words_of}
 use Rattle.gdp_grammar.proofs.Holding.{Holds, holds_nothing, other_holds, row_holds, prop_holds, disjunction_holds, disjunct_holds, choice_ends, block_ends, root_nested}
 use Rattle.gdp_grammar.proofs.Pieces.{no_tokens, first_token, no_words, first_word}
+use Rattle.gdp_grammar.proofs.SaidLines.{root_said}
 use Rattle.gdp_grammar.proofs.Sums.{bind_ok}
 
 -- what a builder holds before a line is what the lines before it own
@@ -274,6 +275,7 @@ nested_as_spelled text m s =
     let end = ends s.taken m s.gives in
     let held = subst (λ (k : ℕ). Built kinds k s.taken.building) last built in
     record {
+      said = root_said text m s;
       nested = held.nested;
       root = subst (λ (x : ModelTree). IsBlockOf kinds (length (lines_of text) + 1) None x.root) end.made
           (root_nested kinds (length (lines_of text) + 1) s.taken.building.inner (at_root kinds (length (lines_of text) + 1) s.taken.building s.taken.building.opened s.taken.building.outer end.root held));

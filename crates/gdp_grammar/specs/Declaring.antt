@@ -1,9 +1,9 @@
 -- What the lines of a text declare, each for itself.
-use Rattle.std.specs.Prelude.{◌≡◌, ℕ, ◌+◌, Bool, not, List, [], ◌∷◌, ◌++◌, Option, None, Some, Result, Ok}
+use Rattle.std.specs.Prelude.{ℕ, ◌+◌, Bool, not, List, [], ◌∷◌, ◌++◌, Option, None, Some, Result, Ok, zero, suc, get_or, Err}
 use Rattle.fractions.specs.Fraction.{Fraction}
-use Rattle.model_tree.specs.Values.{GoalValue, no_goal}
 use Rattle.model_tree.specs.Variables.{VarValue, BooleanValue}
 use Rattle.gdp_grammar.specs.declared.cause.ReadCause.{ReadCause}
+use Rattle.gdp_grammar.specs.declared.cause.ReadCause.TheVariants as cause
 use Rattle.gdp_grammar.specs.Forms.{Form, Var, Boolean, Goal, Disjunct, Signed, form_of}
 use Rattle.gdp_grammar.specs.Lines.{without_comment}
 use Rattle.gdp_grammar.specs.Numerals.{value_of}
@@ -17,6 +17,11 @@ is_blank line = not (is_some_word (words_of (without_comment line)))
 -- the form of a line
 abbrev pub form_on : List ℕ → Result Form ReadCause
 form_on line = form_of (tokens_of (without_comment line))
+
+-- the form of the line with this number, the first of which has the number 1
+abbrev pub form_at : List (List ℕ) → ℕ → Result Form ReadCause
+form_at lines zero = Err cause.Form
+form_at lines (suc n) = form_on (get_or lines n [])
 
 -- the value of a bound's end, where a number is written
 abbrev pub end_value : Option Signed → Option Fraction
@@ -53,10 +58,3 @@ booleans_from line (l ∷ ls) = boolean_in line (form_on l) ++ booleans_from (li
 abbrev pub goals_from : ℕ → List (List ℕ) → List ℕ
 goals_from line [] = []
 goals_from line (l ∷ ls) = goal_in line (form_on l) ++ goals_from (line + 1) ls
-
--- The goal is that of the lines with these numbers: of none the goal of a model without, of one the goal with its number
--- as the mark, and of more there is none.
-abbrev pub IsGoalOf : List ℕ → GoalValue → Type 0
-IsGoalOf [] goal = goal ≡ no_goal
-IsGoalOf (line ∷ []) goal = goal.mark ≡ line
-IsGoalOf (line ∷ other ∷ lines) goal = ⊥

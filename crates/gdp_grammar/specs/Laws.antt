@@ -4,7 +4,8 @@ use Rattle.std.specs.List.{list_all}
 use Rattle.model_tree.specs.Values.{ModelTree}
 use Rattle.gdp_grammar.specs.declared.cause.ReadCause.{ReadCause}
 use Rattle.gdp_grammar.specs.declared.cause.ReadCause.TheVariants as cause
-use Rattle.gdp_grammar.specs.Declaring.{is_blank, vars_from, booleans_from, goals_from, IsGoalOf}
+use Rattle.gdp_grammar.specs.Declaring.{is_blank, form_at, vars_from, booleans_from, goals_from}
+use Rattle.gdp_grammar.specs.Said.{IsGoalOf}
 use Rattle.gdp_grammar.specs.Lines.{without_comment}
 use Rattle.text_grammar.specs.Lines.{lines_of}
 use Rattle.gdp_grammar.specs.Reading.{is_header}
@@ -39,7 +40,7 @@ pub record IsLaidOut (text : List ℕ) (m : ModelTree) : Type 0 where
   pub is_first : is_header (words_of (without_comment header)) ≡ true
   pub vars : m.vars ≡ vars_from (length blank + 2) lines
   pub booleans : m.booleans ≡ booleans_from (length blank + 2) lines
-  pub goal : IsGoalOf (goals_from (length blank + 2) lines) m.goal
+  pub goal : IsGoalOf m.vars (form_at (lines_of text)) (goals_from (length blank + 2) lines) m.goal
 
 -- a text that spells a model is laid out so
 abbrev pub LaidOut : Type 0

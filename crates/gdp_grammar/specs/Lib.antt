@@ -21,6 +21,7 @@ pub mod PropReading
 pub mod PropSizes
 pub mod PropTexts
 pub mod Reading
+pub mod Said
 pub mod Spelling
 pub mod Stacks
 pub mod Tokens

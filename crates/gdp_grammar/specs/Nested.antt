@@ -6,6 +6,8 @@ use Rattle.model_tree.specs.Tree.{BlockTree, block, Disjunctions, no_disjunction
 use Rattle.model_tree.specs.Values.{ModelTree}
 use Rattle.text_grammar.specs.Lines.{lines_of}
 use Rattle.gdp_grammar.specs.Owners.{LineKind, Kinds, kinds_of, is_row, is_logic, is_disjunction, is_disjunct, IsOwner, IsNested}
+use Rattle.gdp_grammar.specs.Said.{IsBlockSaid}
+use Rattle.gdp_grammar.specs.Declaring.{form_at}
 use Rattle.gdp_grammar.specs.Spelling.{Spells}
 
 -- the number stands in the list
@@ -61,10 +63,12 @@ abbrev mutual
   AreDisjunctsOf kinds n (disjunct head b js) = IsBlockOf kinds n (Some head.mark) b × AreDisjunctsOf kinds n js
 
 -- The lines of the text are nested, and the model's tree is nested as they are: each block, disjunction and disjunct
--- has as its own, in order, what stands in the lines that its line owns. The root has the lines without an owner.
+-- has as its own, in order, what stands in the lines that its line owns. The root has the lines without an owner. Each
+-- row, proposition, disjunction and disjunct is what its line says.
 pub record IsNestedAs (text : List ℕ) (m : ModelTree) : Type 0 where
   pub nested : IsNested (kinds_of text) (length (lines_of text) + 1)
   pub root : IsBlockOf (kinds_of text) (length (lines_of text) + 1) None m.root
+  pub said : IsBlockSaid m.vars m.booleans (form_at (lines_of text)) m.root
 
 -- a model that a text spells is nested as its lines are
 abbrev pub NestedAsSpelled : Type 0

@@ -1,7 +1,7 @@
 -- Which line a line belongs to, by the lines that open and end.
-use Rattle.std.specs.Prelude.{◌≡◌, ℕ, zero, suc, ◌-◌, ◌<◌, Bool, true, false, List, [], get_or, Option, None, Some, Result, Ok, if◌then◌else◌}
+use Rattle.std.specs.Prelude.{◌≡◌, ℕ, zero, suc, ◌-◌, ◌<◌, Bool, true, false, List, Option, None, Some, Result, Ok, if◌then◌else◌}
 use Rattle.gdp_grammar.specs.declared.cause.ReadCause.{ReadCause}
-use Rattle.gdp_grammar.specs.Declaring.{form_on}
+use Rattle.gdp_grammar.specs.Declaring.{form_at}
 use Rattle.gdp_grammar.specs.Forms as form
 use Rattle.text_grammar.specs.Lines.{lines_of}
 
@@ -29,8 +29,7 @@ kind_in _ = OtherLine
 
 -- the kinds of these lines, the first of which has the number 1
 abbrev pub kinds_from : List (List ℕ) → Kinds
-kinds_from lines zero = OtherLine
-kinds_from lines (suc n) = kind_in (form_on (get_or lines n []))
+kinds_from lines n = kind_in (form_at lines n)
 
 -- the kinds of the lines of a text
 abbrev pub kinds_of : List ℕ → Kinds

@@ -1,4 +1,4 @@
-use Rattle.gdp_grammar.proofs.Grown.{laid_out}
+use Rattle.gdp_grammar.proofs.SaidLines.{laid_out}
 use Rattle.gdp_grammar.proofs.laws.laid_out.Goals as goal
 
 pub returns : goal.returns
