@@ -65,11 +65,12 @@ terms_among vars more (s ∷ sum) known e =
     let others = bind_ok (known_terms vars sum) _ known id.2 in
     let at : id_of vars s.name ≡ Some id.0 = there (id_of vars s.name) id.0 id.1 in
     let at' : id_of (vars ++ more) s.name ≡ Some id.0 = id_among vars more s.name id.0 at in
-    let below = terms_among vars more sum others.0 others.1 in
-    (ap (λ (o : Option ℕ). or_cause cause.NameUnknown o >>= (λ id. known_terms (vars ++ more) sum >>= (λ others. Ok ((id, s) ∷ others)))) at'
-    ∙ ap (λ (r : Result (List (ℕ × Summand)) ReadCause). r >>= (λ others. Ok ((id.0, s) ∷ others))) below.0
-    ∙ others.2,
-    ap (λ (o : Option ℕ). o ∷ reading.named (vars ++ more) sum) (at' ∙ sym at) ∙ ap (λ (ids : List (Option ℕ)). id_of vars s.name ∷ ids) below.1)
+    let below = terms_among vars more sum others.0 others.1 in (
+      ap (λ (o : Option ℕ). or_cause cause.NameUnknown o >>= (λ id. known_terms (vars ++ more) sum >>= (λ others. Ok ((id, s) ∷ others)))) at'
+          ∙ ap (λ (r : Result (List (ℕ × Summand)) ReadCause). r >>= (λ others. Ok ((id.0, s) ∷ others))) below.0
+          ∙ others.2,
+      ap (λ (o : Option ℕ). o ∷ reading.named (vars ++ more) sum) (at' ∙ sym at) ∙ ap (λ (ids : List (Option ℕ)). id_of vars s.name ∷ ids) below.1,
+    )
 
 pub terms_more : (vars more : List VarValue) (sum : List Summand) (terms : List (ℕ × Fraction)) → terms_of vars sum ≡ Ok terms → terms_of (vars ++ more) sum ≡ Ok terms
 unfolding terms_of
@@ -101,6 +102,7 @@ mutual
   props_more booleans more (argument p ps) e =
       let parts = both (are_known booleans p) (are_all_known booleans ps) e in
       let first = prop_more booleans more p parts.0 in
-      let others = props_more booleans more ps parts.1 in
-      (and_true (are_known (booleans ++ more) p) (are_all_known (booleans ++ more) ps) first.0 others.0,
-      ap (λ (t : PropTree). prop t (trees_in (booleans ++ more) ps)) first.1 ∙ ap (λ (ts : PropTrees). prop (tree_in booleans p) ts) others.1)
+      let others = props_more booleans more ps parts.1 in (
+        and_true (are_known (booleans ++ more) p) (are_all_known (booleans ++ more) ps) first.0 others.0,
+        ap (λ (t : PropTree). prop t (trees_in (booleans ++ more) ps)) first.1 ∙ ap (λ (ts : PropTrees). prop (tree_in booleans p) ts) others.1,
+      )

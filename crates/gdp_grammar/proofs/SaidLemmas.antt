@@ -104,9 +104,13 @@ same_said vars booleans forms old made new goal inner opened outer same s =
 -- an open block with other contents has the same head
 head_kept : (vars : List VarValue) (booleans : List BooleanValue) (forms : FormsOf) (o o' : OpenBlock) (ps : List (OpenBlock × OpenDisjunction)) → o'.indicator ≡ o.indicator → o'.mark ≡ o.mark → AroundSaid vars booleans forms o ps → AroundSaid vars booleans forms o' ps
 head_kept vars booleans forms o o' [] indicator mark s = tt
-head_kept vars booleans forms o o' (p ∷ ps) indicator mark s =
-    (subst (λ (i : ℕ). IsDisjunctBy booleans (forms o'.mark) (record { indicator = i; mark = o'.mark })) (sym indicator)
-    (subst (λ (m : ℕ). IsDisjunctBy booleans (forms m) (record { indicator = o.indicator; mark = m })) (sym mark) s.0), s.1, s.2, s.3)
+head_kept vars booleans forms o o' (p ∷ ps) indicator mark s = (
+  subst (λ (i : ℕ). IsDisjunctBy booleans (forms o'.mark) (record { indicator = i; mark = o'.mark })) (sym indicator)
+      (subst (λ (m : ℕ). IsDisjunctBy booleans (forms m) (record { indicator = o.indicator; mark = m })) (sym mark) s.0),
+  s.1,
+  s.2,
+  s.3,
+)
 
 -- the last of a list's front
 last_of_front : (xs more : List BooleanValue) (x : BooleanValue) → slice_get ((xs ++ x ∷ []) ++ more) (length xs) ≡ Some x
