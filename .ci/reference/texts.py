@@ -1,8 +1,4 @@
-"""What the program has to answer, written down a second time and apart from it, by the rules of `docs/FORMATS.md`.
-
-`answer(words, files)` gives the status, the output and the error of a command over texts that can be read. It is for
-comparing: it is slow, short, and shares no code with the program, not even the numbers (Python's have no limit).
-"""
+"""Model and point texts: reading them, testing a point, and the canonical form."""
 
 import re
 from fractions import Fraction
@@ -459,23 +455,3 @@ def canonical(model):
 
     put(model.root)
     return "".join(line + "\n" for line in lines)
-
-
-def answer(words, files):
-    """The status, what is written on output, and on error."""
-    forms = {"test": 2, "format": 1}
-    if not words or forms.get(words[0]) != len(words) - 1:
-        return 7, b"", b"words refused\n"
-    for name in words[1:]:
-        if len(files[name]) > BYTES:
-            return 2, b"", f"{name}: too long\n".encode()
-    name = words[1]
-    try:
-        model = read_model(files[name])
-        if words[0] == "format":
-            return 0, canonical(model).encode(), b""
-        name = words[2]
-        status, text = verdict(model, *read_point(model, files[name]))
-        return status, text.encode() + b"\n", b""
-    except Refused as refused:
-        return 2, b"", f"{name}: line {refused.line}: {refused.cause}\n".encode()

@@ -1,0 +1,63 @@
+"""The commands over texts that can be read: what `answer` is told by."""
+
+from .programs import lp_text
+from .rewriting import Refusal, compiled
+from .texts import BYTES, Refused, canonical, read_model, read_point, verdict
+
+CHOICES = ("bigm", "hull", "hybrid")
+
+
+def format_model(files, name):
+    return 0, canonical(read(read_model, files, name))
+
+
+def test_point(files, name, at):
+    model = read(read_model, files, name)
+    status, text = verdict(model, *read(lambda text: read_point(model, text), files, at))
+    return status, text + "\n"
+
+
+def compile_model(files, choice, name):
+    model = read(read_model, files, name)
+    names = [*model.vars, *model.booleans]
+    return 0, "".join(f"\\ x{at} {name}\n" for at, name in enumerate(names)) + lp_text(compiled(model, choice))
+
+
+class Told(Exception):
+    """A text is refused: the line that names it."""
+
+
+def read(reader, files, name):
+    try:
+        return reader(files[name])
+    except Refused as refused:
+        raise Told(f"{name}: line {refused.line}: {refused.cause}") from None
+
+
+def form_of(words):
+    """The call that the words ask for, its plain words, and the names of files; None where they are of no form."""
+    if len(words) == 2 and words[0] == "format":
+        return format_model, [], words[1:]
+    if len(words) == 3 and words[0] == "test":
+        return test_point, [], words[1:]
+    if len(words) == 3 and words[0] == "compile" and words[1] in CHOICES:
+        return compile_model, [words[1]], words[2:]
+    return None
+
+
+def answer(words, files):
+    """The status, what is written on output, and on error."""
+    form = form_of(words)
+    if form is None:
+        return 7, b"", b"words refused\n"
+    call, plain, names = form
+    for name in names:
+        if len(files[name]) > BYTES:
+            return 2, b"", f"{name}: too long\n".encode()
+    try:
+        status, text = call(files, *plain, *names)
+        return status, text.encode(), b""
+    except Told as told:
+        return 2, b"", f"{told}\n".encode()
+    except Refusal as refusal:
+        return 4, b"", f"{refusal}\n".encode()
