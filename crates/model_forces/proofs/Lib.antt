@@ -1,0 +1,12 @@
+pub mod Holding
+pub mod InForce
+pub mod OnPath
+pub mod Whole
+pub mod Points
+pub mod Sizes
+pub mod Example
+pub mod Reversed
+pub mod Tabled
+pub mod Listed
+pub mod Storing
+pub mod Gathered
