@@ -17,6 +17,7 @@ use Rattle.cert_grammar.specs.Wholes.{natural_of, whole_of}
 abbrev pub pair_word : ℕ × ℤ → List ℕ
 pair_word p = decimal p.0 ++ 58 ∷ whole_word p.1
 
+-- the words of multipliers
 abbrev pub pair_words : List (ℕ × ℤ) → List (List ℕ)
 pair_words [] = []
 pair_words (p ∷ ps) = pair_word p ∷ pair_words ps
@@ -40,6 +41,7 @@ abbrev pub behind_colon : ℕ → List ℕ → Option (ℕ × ℤ)
 behind_colon row [] = None
 behind_colon row (b ∷ bs) = whole_of bs >?> (λ m. Some (row, m))
 
+-- the multiplier that a word spells
 abbrev pub pair_of : List ℕ → Option (ℕ × ℤ)
 pair_of word = natural_of (front (λ b. not (b == 58)) word) >?> (λ row. behind_colon row (rest (λ b. not (b == 58)) word))
 
@@ -47,6 +49,7 @@ pair_of word = natural_of (front (λ b. not (b == 58)) word) >?> (λ row. behind
 abbrev pub is_next : ℕ → ℕ × ℤ → Bool
 is_next least p = nat_le least p.0 && not (nat_eq (unsigned_abs p.1) 0)
 
+-- the multiplier, if it may come next
 abbrev pub if_next : ℕ → ℕ × ℤ → Option (ℕ × ℤ)
 if_next least p = if is_next least p then Some p else None
 
@@ -86,8 +89,13 @@ form_of (w ∷ ws) =
 abbrev pub is_short : ℕ → Bool
 is_short n = nat_lt n (2 ^ 32)
 
+-- both numbers of a multiplier fit
+abbrev pub pair_fits : ℕ × ℤ → Bool
+pair_fits p = is_short p.0 && fits p.1
+
+-- those of each multiplier fit
 abbrev pub are_short : List (ℕ × ℤ) → Bool
-are_short ps = list_all (λ p. is_short p.0 && fits p.1) ps
+are_short ps = list_all pair_fits ps
 
 -- each number fits its type
 abbrev pub node_fits : Node → Bool

@@ -1,0 +1,3 @@
+mod Appended
+pub mod Fitting
+mod Written
