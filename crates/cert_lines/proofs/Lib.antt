@@ -1,0 +1,8 @@
+pub mod Digits
+pub mod LineReads
+pub mod Lowest
+pub mod Nexts
+pub mod NodeReads
+pub mod Pairing
+pub mod Pieces
+pub mod ValueReads
