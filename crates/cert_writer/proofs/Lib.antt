@@ -1,3 +1,3 @@
 mod Appended
 pub mod Fitting
-mod Written
+pub mod Written

@@ -1,0 +1,69 @@
+-- What the lines of an answer give, and how their reader answers.
+use Rattle.std.specs.Prelude.{◌≡◌, ℤ, pos, ◌≤ℤ◌, ℕ, Bool, true, false, ◌||◌, List, [], ◌∷◌, ◌++◌, Result, Ok, Err, codes, if◌then◌else◌}
+use Rattle.text_grammar.specs.Grammars.{IsFirstBadBy}
+use Rattle.text_grammar.specs.Outcomes.{◌>>=◌, or_cause}
+use Rattle.cert_grammar.specs.declared.cause.CertCause.{CertCause}
+use Rattle.cert_grammar.specs.declared.cause.CertCause.TheVariants as cause
+use Rattle.cert_grammar.specs.Answers.{AnswerTaken, at_due, are_two, is_one, second_of, named_number, behind_nodes, answer_grammar}
+use Rattle.cert_grammar.specs.declared.due.Due.{Due}
+use Rattle.cert_grammar.specs.declared.due.Due.TheVariants.{RouteLine, ClaimLine, Steps, LastLine, Nothing}
+use Rattle.cert_grammar.specs.declared.due.ClaimKind.{ClaimKind}
+use Rattle.cert_grammar.specs.declared.due.ClaimKind.TheVariants.{IsBest, IsEmpty, IsEndless}
+use Rattle.cert_grammar.specs.Claims.{route_of}
+use Rattle.answers.specs.declared.answer.Answer.{Answer}
+use Rattle.cert_grammar.specs.ExactLines.{exact_lines}
+use Rattle.cert_grammar.specs.Trees.{with_words}
+use Rattle.cert_reader.specs.declared.fault.LineFault.{LineFault}
+use Rattle.cert_reader.specs.declared.fault.CertError.{CertError}
+use Rattle.cert_reader.specs.declared.fault.CertError.TheVariants as error
+use Rattle.cert_reader.specs.TreeReads.{Fails}
+
+-- a ray is claimed
+abbrev pub is_endless : ClaimKind → Bool
+is_endless (IsBest value) = false
+is_endless IsEmpty = false
+is_endless IsEndless = true
+
+-- Steps are due only where a ray is claimed, and behind the last line the nodes have their end, or a ray is claimed.
+abbrev pub is_kept : Due → ClaimKind → Bool → Bool
+is_kept Steps kind ended = is_endless kind
+is_kept LastLine kind ended = is_endless kind
+is_kept Nothing kind ended = is_endless kind || ended
+is_kept _ kind ended = true
+
+-- what is known wherever a line is due; the denominator is at least 1
+pub record IsKept (due : Due) (kind : ClaimKind) (over : ℤ) (ended : Bool) : Type 0 where
+  pub positive : pos 1 ≤ℤ over
+  pub kept : is_kept due kind ended ≡ true
+
+-- what the lines add whose words stand in no definition of their own
+abbrev pub header_line : AnswerTaken → List (List ℕ) → Result AnswerTaken CertCause
+header_line t words = if are_two (codes "gdp-answer") (codes "1") words then Ok (at_due RouteLine t) else Err cause.Form
+
+abbrev pub route_line : AnswerTaken → List (List ℕ) → Result AnswerTaken CertCause
+route_line t words = do
+  word ← or_cause cause.Form (second_of (codes "route") words)
+  route ← or_cause cause.Form (route_of word)
+  Ok (at_due ClaimLine (record t { route = route }))
+
+abbrev pub last_line : AnswerTaken → List (List ℕ) → Result AnswerTaken CertCause
+last_line t words = if is_one (codes "end") words then Ok (at_due Nothing t) else Err cause.Form
+
+abbrev pub node_line : AnswerTaken → List (List ℕ) → Result AnswerTaken CertCause
+node_line t words = do
+  tree ← with_words t.tree words
+  Ok (at_due (behind_nodes tree) (record t { tree = tree }))
+
+-- numbers with that of a line on the name that is due
+abbrev pub pushed : List ℤ → List ℕ → List ℕ → List (List ℕ) → Result (List ℤ) CertCause
+pushed numbers first name words = named_number first name words >>= (λ z. Ok (numbers ++ z ∷ []))
+
+-- the answer is what is given, unless memory was wanted
+abbrev pub AnswerGives : Result Answer LineFault → Result Answer CertCause → Type 0
+AnswerGives (Ok answer) given = given ≡ Ok answer
+AnswerGives (Err fault) given = Fails fault given
+
+-- the error names the first bad line of a text and its first cause, unless memory was wanted
+abbrev pub IsAnswerRefusal : List (List ℕ) → List (List ℕ) → List ℕ → CertError → Type 0
+IsAnswerRefusal names booleans text error.Memory = Unit {0}
+IsAnswerRefusal names booleans text (error.At line cause) = IsFirstBadBy (answer_grammar names booleans) (exact_lines text) line cause

@@ -1,0 +1,3 @@
+pub mod AnswerReads
+pub mod Grown
+pub mod TreeReads
