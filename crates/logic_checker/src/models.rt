@@ -1,0 +1,150 @@
+//! Proofs over a model's own forces.
+
+ghost use Rattle.std.specs.Prelude.{◌≡◌, ◌<ℤ◌, pos, true, false, reverse, length, Some, Ok, OnOk, IfOk, nat_lt};
+ghost use Rattle.outcomes.specs.Calls.{OrMemory};
+ghost use Rattle.lp_frame.specs.Force.{is_bounded};
+ghost use Rattle.model_tree.specs.Values.{model_tree};
+ghost use Rattle.model_forces.specs.Paths.{IsPathOf, kind_at};
+ghost use Rattle.model_forces.specs.Forces.{model_force_of};
+ghost use Rattle.node_checker.specs.Subjects.{IsAllowed};
+ghost use Rattle.node_checker.specs.Tests.{least_of};
+ghost use Rattle.answer_tests.specs.Counted.{IsCounted};
+ghost use Rattle.answer_tests.specs.Groups.{first_error, claim_groups};
+ghost use Rattle.answer_tests.specs.Laws.{IsTrueOf};
+ghost use Rattle.certificate_checker.specs.Answers.{answer_groups};
+ghost use Rattle.logic_checker.specs.Models.{is_int_there, may_stand, is_false_at, nodes_of, least_at};
+
+use answer_tests::{see_claim, test_claim};
+use answers::Claim;
+use certificate_checker::{Refusal, check_proof, is_inner, refusal_of_claim};
+use gdp_io::Name;
+use lp_frame::Force;
+use lp_rows::{Kind, sum_at};
+use model_forces::{is_no, is_open, known, model_force, tris};
+use model_items::{item_count, item_tri};
+use model_tree::{Bound, Model};
+use node_checker::{Least, Tested};
+use outcomes::Memory;
+use proof_tree::{Half, Path, Split};
+use std::alloc::Global;
+
+// The nodes of a model.
+#[derive(Drop)]
+struct Nodes<'a> {
+    model: &'a Model,
+}
+
+impl<'a> Tested for Nodes<'a> {
+    ghost subject = { λ me. nodes_of (model_tree me.model.now) };
+
+    fn force(&self, alloc: Global, path: &Path) -> Result<Force, Memory> {
+        let _vars = self.model.vars();
+        model_force(alloc, self.model, path, true)
+    }
+
+    fn allows(&self, path: &Path, split: Split) -> bool {
+        may_split(self.model, path.halves(), split)
+    }
+
+    fn is_false(&self, alloc: Global, path: &Path, item: u32) -> Result<bool, Memory> {
+        is_item_false(alloc, self.model, path.halves(), item)
+    }
+}
+
+// Whether a split may stand at a path.
+fn may_split(model: &Model, halves: &[Half], split: Split) -> bool
+    ensures { result ≡ may_stand (model_tree model.now) (reverse halves.now) split }
+{
+    match split {
+        Split::Int { column, at } => is_int_at(model.vars(), column) && is_inner(at),
+        Split::Truth { id } => is_boolean(model, id) && is_open(known(halves, id)),
+    }
+}
+
+fn is_boolean(model: &Model, id: u32) -> bool
+    ensures { result ≡ nat_lt id (length model.now.booleans) }
+{
+    (id as usize) < model.booleans().len()
+}
+
+// Whether there is an integer variable of this number.
+fn is_int_at(vars: &[(Name, Kind, Bound, u32)], column: u32) -> bool
+    ensures { result ≡ is_int_there (kind_at vars.now column) }
+{
+    match vars.get(column as usize) {
+        Some(variable) => is_int(variable.1),
+        None => false,
+    }
+}
+
+fn is_int(kind: Kind) -> bool
+    ensures { result ≡ is_int_there (Some kind) }
+{
+    match kind {
+        Kind::Real => false,
+        Kind::Int => true,
+    }
+}
+
+// Whether an item's condition is false at a path.
+fn is_item_false(alloc: Global, model: &Model, halves: &[Half], item: u32) -> Result<bool, Memory>
+    ensures { IfOk result (λ answer. answer ≡ is_false_at (model_tree model.now) (reverse halves.now) item) }
+{
+    let _vars = model.vars();
+    if item >= item_count(model) {
+        return Ok(false);
+    }
+    let count = model.booleans().len() as u32;
+    let tris = tris(alloc, halves, count)?;
+    Ok(is_no(item_tri(model, item, tris.as_slice())))
+}
+
+/// Tests an answer whose proof speaks of the model's own nodes. Where the tests pass, the claim is true of the model.
+pub fn check_by_logic(alloc: Global, model: &Model, claim: &Claim) -> Result<(), Refusal>
+    requires { IsCounted (model_tree model.now) claim.now }
+    ensures first { OrMemory Refusal.Memory result (first_error (answer_groups (model_tree model.now) (nodes_of (model_tree model.now)) (least_at (model_tree model.now) claim.now) claim.now)) }
+    ensures sound { OnOk result (IsTrueOf (model_tree model.now) claim.now) }
+{
+    let _vars = model.vars();
+    see_claim(claim);
+    match test_claim(model, claim) {
+        Ok(()) => {
+            let nodes = Nodes { model };
+            check_proof(alloc, claim, &nodes, &least(model, claim))
+        }
+        Err(error) => Err(refusal_of_claim(error)),
+    }
+}
+
+// The goal's terms at the point of an answer whose own tests passed.
+fn least(model: &Model, claim: &Claim) -> Option<Least>
+    requires counted { IsCounted (model_tree model.now) claim.now }
+    requires passed { first_error (claim_groups (model_tree model.now) claim.now) ≡ Ok tt }
+    ensures { least_of result ≡ least_at (model_tree model.now) claim.now }
+{
+    let _vars = model.vars();
+    match claim {
+        Claim::Best {
+            at,
+            truths: _,
+            value: _,
+            proof: _,
+        } => {
+            let over = at.over();
+            match sum_at(model.terms(), at.nums()) {
+                Ok(sum) => Some(Least {
+                    sense: model.sense(),
+                    num: sum,
+                    den: over,
+                }),
+                Err(_) => unreachable!(),
+            }
+        }
+        Claim::Empty { proof: _ } => None,
+        Claim::Endless {
+            at: _,
+            truths: _,
+            ray: _,
+        } => None,
+    }
+}
