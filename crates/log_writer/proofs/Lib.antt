@@ -1,0 +1,2 @@
+mod LogAgain
+mod Logged
