@@ -1,0 +1,11 @@
+//! Answers and their texts, both ways: what is written is read again, and what is read is written again.
+//!
+//! Its contract in one sentence: an answer that is written is read as that answer, and a text that is read is written
+//! byte for byte, both from the clauses of `cert_writer` and `cert_reader` alone, for the names of every model.
+//!
+//! Read `laws.rt`; `specs/ModelNames.antt` says which names those of a model are.
+#![tactic(auto)]
+
+mod laws;
+
+pub use laws::{model_names, one_answer, read_again, write_again};
