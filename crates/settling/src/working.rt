@@ -10,8 +10,9 @@ ghost use Rattle.settling.specs.Worked.{HasRunFrom, HasWorked, Works, WorkEnds, 
 ghost use Rattle.exact_simplex.specs.Run.{HasEnded};
 
 use crate::deciding::settle;
-use crate::ending::{Ending, Stop, TestError, WorkError};
+use crate::ending::{Ending, TestError, WorkError};
 use crate::nodes::Nodes;
+use answers::Stop;
 use exact_simplex::{Log, Move, Outcome, Tableau};
 use fractions::Frac;
 use lp_frame::{Force, standard};

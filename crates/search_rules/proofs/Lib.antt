@@ -1,0 +1,11 @@
+pub mod Moves
+pub mod Keeps
+pub mod Endings
+pub mod Turning
+pub mod Same
+pub mod Determined
+pub mod Finishing
+pub mod Readings
+pub mod Deeper
+pub mod Solving
+pub mod OneAnswer

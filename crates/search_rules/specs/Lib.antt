@@ -1,0 +1,9 @@
+pub mod Machine
+pub mod Claims
+pub mod Problem
+pub mod Searching
+pub mod Depth
+pub mod Turns
+pub mod Solved
+pub mod Outcomes
+pub mod Answered

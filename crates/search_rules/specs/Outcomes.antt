@@ -1,0 +1,15 @@
+-- What a finished search claims, and that its proof shows it.
+use Rattle.std.specs.Prelude.{List, Option, Some, None}
+use Rattle.proof_tree.specs.declared.proof.Node.{Node}
+use Rattle.search_rules.specs.declared.waiting.Best as found
+use Rattle.search_rules.specs.declared.outcome.Outcome.{Outcome}
+use Rattle.search_rules.specs.declared.outcome.Outcome.TheVariants.{Best, Empty}
+use Rattle.search_rules.specs.Claims.{Words, IsShown}
+
+abbrev pub IsRightOutcome : Words → Outcome → Type 0
+IsRightOutcome w (Best best proof) = IsShown w (Some best) proof
+IsRightOutcome w (Empty proof) = IsShown w None proof
+
+abbrev pub outcome_of : Option found.Best → List Node → Outcome
+outcome_of None proof = Empty proof
+outcome_of (Some best) proof = Best best proof
