@@ -1,7 +1,10 @@
 """The commands over texts that can be read: what `answer` is told by."""
 
+import re
+
 from .programs import lp_text
 from .rewriting import Refusal, compiled
+from .solving import ROUTES, solved
 from .texts import BYTES, Refused, canonical, read_model, read_point, verdict
 
 CHOICES = ("bigm", "hull", "hybrid")
@@ -23,6 +26,10 @@ def compile_model(files, choice, name):
     return 0, "".join(f"\\ x{at} {name}\n" for at, name in enumerate(names)) + lp_text(compiled(model, choice))
 
 
+def solve_model(files, route, steps, name):
+    return solved(read(read_model, files, name), route, int(steps))
+
+
 class Told(Exception):
     """A text is refused: the line that names it."""
 
@@ -42,7 +49,13 @@ def form_of(words):
         return test_point, [], words[1:]
     if len(words) == 3 and words[0] == "compile" and words[1] in CHOICES:
         return compile_model, [words[1]], words[2:]
+    if len(words) == 4 and words[0] == "solve" and words[1] in ROUTES and is_steps(words[2]):
+        return solve_model, words[1:3], words[3:]
     return None
+
+
+def is_steps(word):
+    return re.fullmatch(r"[0-9]+", word) is not None and 1 <= int(word) <= 1_000_000
 
 
 def answer(words, files):

@@ -189,6 +189,7 @@ class Disjunction:
 class Model:
     def __init__(self):
         self.vars, self.booleans, self.goal, self.row_count, self.node_count = {}, {}, None, 0, 0
+        self.goal_mark = 0
         self.plain = []
         self.opened = [Block()]
 
@@ -243,7 +244,7 @@ class Model:
             refuse_if(not at_root or self.goal, "Form")
             stored, constant, scale = self.scaled(terms, constant)
             refuse_if(scale > MOST, "Number")
-            self.goal = (word, stored, constant, scale)
+            self.goal, self.goal_mark = (word, stored, constant, scale), line
         elif word == "row":
             if tokens.peek() == ("number", "0") and tokens.peek(1)[0] != "word":
                 tokens.take("number")
