@@ -1,0 +1,8 @@
+//! The search over a mixed-integer program.
+#![tactic(auto)]
+
+mod nodes;
+mod solving;
+
+pub use nodes::MilpNodes;
+pub use solving::solve_milp;
