@@ -1,0 +1,3 @@
+pub mod FalseConditions
+pub mod OpenBooleans
+pub mod Passes
