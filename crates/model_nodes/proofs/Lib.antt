@@ -1,0 +1,5 @@
+pub mod Rays
+pub mod Floors
+pub mod Found
+pub mod Promised
+pub mod Tested
