@@ -35,14 +35,12 @@ pub record AnswerTaken : Type 0 where
 abbrev pub nothing_taken : ℕ → AnswerTaken
 nothing_taken booleans = record { due = Header; route = BigM; kind = IsEmpty; over = pos 1; nums = []; truths = replicate booleans false; ray = []; tree = tree_open }
 
-abbrev pub refused : {A : Type 0} → CertCause → Result A CertCause
-refused c = Err c
-
 -- the words are these two
 abbrev pub are_two : List ℕ → List ℕ → List (List ℕ) → Bool
 are_two first second (a ∷ b ∷ []) = bytes_eq a first && bytes_eq b second
 are_two first second _ = false
 
+-- the words are this one alone
 abbrev pub is_one : List ℕ → List (List ℕ) → Bool
 is_one word (a ∷ []) = bytes_eq a word
 is_one word _ = false
@@ -80,18 +78,33 @@ named_number first name words = do
 abbrev pub behind_vals : ℕ → List ℤ → Due
 behind_vals n nums = if nat_lt (length nums) n then Vals else Ons 0
 
+-- the line behind the last of so many steps
 abbrev pub behind_steps : ℕ → List ℤ → Due
 behind_steps n ray = if nat_lt (length ray) n then Steps else LastLine
 
+-- the same, with this line due
 abbrev pub at_due : Due → AnswerTaken → AnswerTaken
 at_due due t = record t { due = due }
 
+-- what the first line adds
+abbrev pub header_line : AnswerTaken → List (List ℕ) → Result AnswerTaken CertCause
+header_line t words = if are_two (codes "gdp-answer") (codes "1") words then Ok (at_due RouteLine t) else Err cause.Form
+
+-- what the line of the route adds
+abbrev pub route_line : AnswerTaken → List (List ℕ) → Result AnswerTaken CertCause
+route_line t words = do
+  word ← or_cause cause.Form (second_of (codes "route") words)
+  route ← or_cause cause.Form (route_of word)
+  Ok (at_due ClaimLine (record t { route = route }))
+
+-- what the line of the claim adds
 abbrev pub claim_line : AnswerTaken → List (List ℕ) → Result AnswerTaken CertCause
 claim_line t words =
     if is_one (codes "empty") words then Ok (at_due TreeLine t)
     else (if is_one (codes "endless") words then Ok (at_due Over (record t { kind = IsEndless }))
     else (or_cause cause.Form (second_of (codes "best") words) >>= (λ word. spelled_value word >>= (λ value. Ok (at_due Over (record t { kind = IsBest value }))))))
 
+-- what the line of the denominator adds
 abbrev pub over_line : ℕ → AnswerTaken → List (List ℕ) → Result AnswerTaken CertCause
 over_line n t words = do
   word ← or_cause cause.Form (second_of (codes "over") words)
@@ -99,11 +112,13 @@ over_line n t words = do
   number ← refused_where (not (int_lt (pos 0) z && fits z)) cause.Number
   Ok (at_due (behind_vals n []) (record t { over = z }))
 
+-- what the line of the next variable adds
 abbrev pub val_line : List (List ℕ) → AnswerTaken → List (List ℕ) → Result AnswerTaken CertCause
 val_line names t words = do
   z ← named_number (codes "val") (slice_index_or names (length t.nums) []) words
   Ok (at_due (behind_vals (length names) (t.nums ++ z ∷ [])) (record t { nums = t.nums ++ z ∷ [] }))
 
+-- what the line of the next step adds
 abbrev pub step_line : List (List ℕ) → AnswerTaken → List (List ℕ) → Result AnswerTaken CertCause
 step_line names t words = do
   z ← named_number (codes "step") (slice_index_or names (length t.ray) []) words
@@ -114,6 +129,7 @@ abbrev pub place_from : ℕ → ℕ → List ℕ → List (List ℕ) → Option 
 place_from least k name [] = None
 place_from least k name (n ∷ ns) = if nat_le least k && bytes_eq name n then Some k else place_from least (suc k) name ns
 
+-- what the line before the nodes adds
 abbrev pub tree_line : AnswerTaken → List (List ℕ) → Result AnswerTaken CertCause
 tree_line t words = if is_one (codes "tree") words then Ok (at_due Nodes t) else Err cause.Form
 
@@ -122,32 +138,39 @@ abbrev pub behind_ons : List (List ℕ) → AnswerTaken → ClaimKind → List (
 behind_ons names t IsEndless words = step_line names t words
 behind_ons names t kind words = tree_line t words
 
+-- what the line of a Boolean adds, or the line behind those
 abbrev pub on_line : List (List ℕ) → List (List ℕ) → AnswerTaken → ℕ → List (List ℕ) → Option (List ℕ) → Result AnswerTaken CertCause
 on_line names booleans t least words None = behind_ons names t t.kind words
 on_line names booleans t least words (Some name) = do
   id ← or_cause cause.Name (place_from least 0 name booleans)
   Ok (at_due (Ons (suc id)) (record t { truths = set t.truths id true }))
 
+-- the line behind that of a node
 abbrev pub behind_nodes : TreeTaken → Due
 behind_nodes tree = if tree.ended then Nothing else Nodes
 
+-- what the line of a node adds, or that of the end
+abbrev pub node_line : AnswerTaken → List (List ℕ) → Result AnswerTaken CertCause
+node_line t words = do
+  tree ← with_words t.tree words
+  Ok (at_due (behind_nodes tree) (record t { tree = tree }))
+
+-- what the end of a claim without a proof adds
+abbrev pub last_line : AnswerTaken → List (List ℕ) → Result AnswerTaken CertCause
+last_line t words = if is_one (codes "end") words then Ok (at_due Nothing t) else Err cause.Form
+
 -- what a line with these words adds, by what is due
 abbrev pub due_line : List (List ℕ) → List (List ℕ) → AnswerTaken → Due → List (List ℕ) → Result AnswerTaken CertCause
-due_line names booleans t Header words = if are_two (codes "gdp-answer") (codes "1") words then Ok (at_due RouteLine t) else Err cause.Form
-due_line names booleans t RouteLine words = do
-  word ← or_cause cause.Form (second_of (codes "route") words)
-  route ← or_cause cause.Form (route_of word)
-  Ok (at_due ClaimLine (record t { route = route }))
+due_line names booleans t Header words = header_line t words
+due_line names booleans t RouteLine words = route_line t words
 due_line names booleans t ClaimLine words = claim_line t words
 due_line names booleans t Over words = over_line (length names) t words
 due_line names booleans t Vals words = val_line names t words
 due_line names booleans t (Ons least) words = on_line names booleans t least words (on_name words)
 due_line names booleans t Steps words = step_line names t words
-due_line names booleans t LastLine words = if is_one (codes "end") words then Ok (at_due Nothing t) else Err cause.Form
+due_line names booleans t LastLine words = last_line t words
 due_line names booleans t TreeLine words = tree_line t words
-due_line names booleans t Nodes words = do
-  tree ← with_words t.tree words
-  Ok (at_due (behind_nodes tree) (record t { tree = tree }))
+due_line names booleans t Nodes words = node_line t words
 due_line names booleans t Nothing words = Err cause.Form
 
 -- what a line adds; a line that no newline ends is refused
@@ -162,10 +185,12 @@ claim_of t (IsBest value) = Best (record { over = t.over; nums = t.nums }) t.tru
 claim_of t IsEmpty = Empty t.tree.nodes
 claim_of t IsEndless = Endless (record { over = t.over; nums = t.nums }) t.truths t.ray
 
+-- no line is due
 abbrev pub is_nothing : Due → Bool
 is_nothing Nothing = true
 is_nothing _ = false
 
+-- the answer that the lines gave; a text that ends early is refused there
 unfoldable pub answer_after : AnswerTaken → Result Answer CertCause
 answer_after t = do
   end ← refused_where (not (is_nothing t.due)) cause.Form

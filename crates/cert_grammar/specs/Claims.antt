@@ -44,13 +44,16 @@ value_word f = if unsigned_abs f.den == 1 then whole_word f.num else whole_word 
 abbrev pub is_lowest_spelling : ℤ → ℕ → Bool
 is_lowest_spelling p q = nat_le 2 q && (not (fits p && fits (pos q)) || nat_eq (common_divisor (unsigned_abs p) q) 1)
 
+-- a number over another, where they are written in lowest terms
 abbrev pub if_lowest : ℤ → ℕ → Option Fraction
 if_lowest p q = if is_lowest_spelling p q then Some (record { num = p; den = pos q }) else None
 
+-- the value of a number and what stands behind it, a stroke first
 abbrev pub behind_stroke : ℤ → List ℕ → Option Fraction
 behind_stroke p [] = Some (record { num = p; den = pos 1 })
 behind_stroke p (b ∷ bs) = natural_of bs >?> (λ q. if_lowest p q)
 
+-- the value that a word spells, whatever its size
 abbrev pub value_form : List ℕ → Option Fraction
 value_form word = whole_of (front (λ b. not (b == 47)) word) >?> (λ p. behind_stroke p (rest (λ b. not (b == 47)) word))
 

@@ -32,6 +32,7 @@ TreeIsWritten = (lines : List (List (List ℕ))) (nodes : List Node) → SpellsB
 abbrev pub is_exact_word : List ℕ → Bool
 is_exact_word word = list_all (λ b. not (b == 10) && not (b == 32)) word
 
+-- each is a word without blanks and newlines
 abbrev pub are_exact_words : List (List ℕ) → Bool
 are_exact_words [] = true
 are_exact_words (w ∷ ws) = is_exact_word w && are_exact_words ws
@@ -58,10 +59,12 @@ pub record IsPointOf (names booleans : List (List ℕ)) (point : PointValue) (tr
   pub nums_long : length point.nums ≡ length names
   pub truths_long : length truths ≡ length booleans
 
+-- a ray with a number for each name
 pub record IsRayOf (names : List (List ℕ)) (ray : List ℤ) : Type 0 where
   pub fit : list_all fits ray ≡ true
   pub long : length ray ≡ length names
 
+-- a claim with a number for each name, a truth for each Boolean, and a proof
 abbrev pub IsClaim : List (List ℕ) → List (List ℕ) → Claim → Type 0
 IsClaim names booleans (Best point truths value nodes) = (is_value value ≡ true) × (IsPointOf names booleans point truths × IsFittingProof nodes)
 IsClaim names booleans (Empty nodes) = IsFittingProof nodes

@@ -63,18 +63,22 @@ abbrev pub int_form : List (List ℕ) → Option Node
 int_form (column ∷ at ∷ []) = natural_of column >?> (λ j. whole_of at >?> (λ k. Some (node.Split (split.Int j k))))
 int_form _ = None
 
+-- the form of a split on a Boolean
 abbrev pub truth_form : List (List ℕ) → Option Node
 truth_form (id ∷ []) = natural_of id >?> (λ n. Some (node.Split (split.Truth n)))
 truth_form _ = None
 
+-- the form of a false place
 abbrev pub logic_form : List (List ℕ) → Option Node
 logic_form (place ∷ []) = natural_of place >?> (λ n. Some (node.LogicFalse n))
 logic_form _ = None
 
+-- the form of a scale and multipliers
 abbrev pub bounded_form : List (List ℕ) → Option Node
 bounded_form [] = None
 bounded_form (scale ∷ ws) = whole_of scale >?> (λ s. pairs_from 0 ws >?> (λ ps. Some (node.Bounded s ps)))
 
+-- the node that a line spells, whatever the size of its numbers
 abbrev pub form_of : List (List ℕ) → Option Node
 form_of [] = None
 form_of (w ∷ ws) =

@@ -29,9 +29,11 @@ node_with form = do
   number ← refused_where (not (node_fits n)) cause.Number
   Ok n
 
+-- the form of multipliers alone
 abbrev pub refuted_form : List (List ℕ) → Option Node
 refuted_form words = pairs_from 0 words >?> (λ ps. Some (node.Refuted ps))
 
+-- a split on a column, of its parts as they are read
 abbrev pub int_result : Natural → Whole → Result Node CertCause
 int_result natural.Malformed at = Err cause.Form
 int_result natural.Wide whole.Malformed = Err cause.Form
@@ -41,21 +43,25 @@ int_result (natural.Is j) whole.Malformed = Err cause.Form
 int_result (natural.Is j) whole.Wide = Err cause.Number
 int_result (natural.Is j) (whole.Is k) = Ok (node.Split (split.Int j k))
 
+-- a split on a Boolean
 abbrev pub truth_result : Natural → Result Node CertCause
 truth_result natural.Malformed = Err cause.Form
 truth_result natural.Wide = Err cause.Number
 truth_result (natural.Is n) = Ok (node.Split (split.Truth n))
 
+-- a false place
 abbrev pub logic_result : Natural → Result Node CertCause
 logic_result natural.Malformed = Err cause.Form
 logic_result natural.Wide = Err cause.Number
 logic_result (natural.Is n) = Ok (node.LogicFalse n)
 
+-- multipliers alone
 abbrev pub refuted_result : Pairs → Result Node CertCause
 refuted_result pairs.Malformed = Err cause.Form
 refuted_result pairs.Wide = Err cause.Number
 refuted_result (pairs.Are ps) = Ok (node.Refuted ps)
 
+-- a scale and multipliers
 abbrev pub bounded_result : Whole → Pairs → Result Node CertCause
 bounded_result whole.Malformed ps = Err cause.Form
 bounded_result whole.Wide pairs.Malformed = Err cause.Form

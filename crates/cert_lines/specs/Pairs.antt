@@ -53,6 +53,7 @@ IsNext least word row next.Malformed = (pair_of word >?> if_next least) ≡ None
 IsNext least word row next.Wide = (p : ℕ × ℤ) × IsSpelled least word row p × (pair_fits p ≡ false)
 IsNext least word row (next.Is n m) = IsSpelled least word row (n, m) × (pair_fits (n, m) ≡ true)
 
+-- the word spells none that may come next
 abbrev pub is_none : Next → Bool
 is_none next.Malformed = true
 is_none next.Wide = false
@@ -64,6 +65,7 @@ kept_mults before next.Malformed = before
 kept_mults before next.Wide = before
 kept_mults before (next.Is n m) = before ++ (n, m) ∷ []
 
+-- all fit, those before and this one
 abbrev pub kept_fits : Bool → Next → Bool
 kept_fits fits next.Malformed = fits
 kept_fits fits next.Wide = false

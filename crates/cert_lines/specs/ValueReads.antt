@@ -21,11 +21,13 @@ abbrev pub fraction_of : Result (ℤ × ℤ) CertCause → Result Fraction CertC
 fraction_of (Ok p) = Ok (record { num = p.0; den = p.1 })
 fraction_of (Err c) = Err c
 
+-- a value without a stroke, of its number as it is read
 abbrev pub whole_result : Whole → Result Fraction CertCause
 whole_result whole.Malformed = Err cause.Form
 whole_result whole.Wide = Err cause.Number
 whole_result (whole.Is p) = Ok (record { num = p; den = pos 1 })
 
+-- a value with a stroke
 abbrev pub quotient_result : Whole → ℕ → Result Fraction CertCause
 quotient_result whole.Malformed q = Err cause.Form
 quotient_result whole.Wide q = if nat_lt q 2 then Err cause.Form else Err cause.Number

@@ -27,7 +27,8 @@ use Rattle.cert_grammar.specs.ExactLines.{exact_line, exact_lines, pieces_of}
 use Rattle.proof_tree.specs.declared.proof.Node.{Node}
 use Rattle.cert_grammar.specs.Trees.{TreeTaken, with_words}
 use Rattle.cert_grammar.specs.Wholes.{whole_of}
-use Rattle.cert_reader.specs.AnswerReads.{is_endless, is_kept, header_line, route_line, last_line, node_line, pushed}
+use Rattle.cert_grammar.specs.Answers.{header_line, route_line, last_line, node_line}
+use Rattle.cert_reader.specs.AnswerReads.{is_endless, is_kept, pushed}
 use Rattle.cert_lines.specs.LineReads.{over_of}
 
 -- numbers

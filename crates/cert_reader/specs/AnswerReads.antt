@@ -36,24 +36,6 @@ pub record IsKept (due : Due) (kind : ClaimKind) (over : ℤ) (ended : Bool) : T
   pub positive : pos 1 ≤ℤ over
   pub kept : is_kept due kind ended ≡ true
 
--- what the lines add whose words stand in no definition of their own
-abbrev pub header_line : AnswerTaken → List (List ℕ) → Result AnswerTaken CertCause
-header_line t words = if are_two (codes "gdp-answer") (codes "1") words then Ok (at_due RouteLine t) else Err cause.Form
-
-abbrev pub route_line : AnswerTaken → List (List ℕ) → Result AnswerTaken CertCause
-route_line t words = do
-  word ← or_cause cause.Form (second_of (codes "route") words)
-  route ← or_cause cause.Form (route_of word)
-  Ok (at_due ClaimLine (record t { route = route }))
-
-abbrev pub last_line : AnswerTaken → List (List ℕ) → Result AnswerTaken CertCause
-last_line t words = if is_one (codes "end") words then Ok (at_due Nothing t) else Err cause.Form
-
-abbrev pub node_line : AnswerTaken → List (List ℕ) → Result AnswerTaken CertCause
-node_line t words = do
-  tree ← with_words t.tree words
-  Ok (at_due (behind_nodes tree) (record t { tree = tree }))
-
 -- numbers with that of a line on the name that is due
 abbrev pub pushed : List ℤ → List ℕ → List ℕ → List (List ℕ) → Result (List ℤ) CertCause
 pushed numbers first name words = named_number first name words >>= (λ z. Ok (numbers ++ z ∷ []))

@@ -3,7 +3,8 @@
 ghost use Rattle.std.specs.Prelude.{◌≡◌, ◌≤ℤ◌, pos, true, IfOk, set};
 ghost use Rattle.cert_grammar.specs.Answers.{due_line, with_line, nothing_taken, answer_after, claim_line, over_line, val_line, step_line, on_line, on_name as name_on, behind_vals as due_after_vals, behind_steps as due_after_steps, behind_ons as line_after_ons, behind_nodes as due_after_nodes, tree_line as line_of_tree, is_nothing as is_no_line};
 ghost use Rattle.cert_grammar.specs.ExactLines.{parts_of, exact_line};
-ghost use Rattle.cert_reader.specs.AnswerReads.{header_line, route_line, last_line, node_line, pushed, is_endless as is_endless_value, AnswerGives};
+ghost use Rattle.cert_grammar.specs.Answers.{header_line, route_line, last_line, node_line};
+ghost use Rattle.cert_reader.specs.AnswerReads.{pushed, is_endless as is_endless_value, AnswerGives};
 ghost use Rattle.cert_reader.specs.TreeReads.{LineGives};
 
 use crate::fault::LineFault;

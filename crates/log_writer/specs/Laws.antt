@@ -16,10 +16,12 @@ event_fits event.OpenRoot = true
 event_fits (event.Open parent second) = is_short parent
 event_fits (event.Move enter leave) = is_short enter && is_short leave
 
+-- those of each event
 abbrev pub events_fit : List Event → Bool
 events_fit [] = true
 events_fit (e ∷ es) = event_fits e && events_fit es
 
+-- those of a place
 abbrev pub place_fits : WideAt → Bool
 place_fits (wide.Entry row column) = is_short row && is_short column
 place_fits (wide.Over row) = is_short row
@@ -29,6 +31,7 @@ place_fits (wide.Sum mark) = is_short mark
 place_fits (wide.RaySum mark) = is_short mark
 place_fits wide.Value = true
 
+-- those of a stop
 abbrev pub stop_fits : Stop → Bool
 stop_fits stop.Steps = true
 stop_fits (stop.Wide place) = place_fits place
