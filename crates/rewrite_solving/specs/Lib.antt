@@ -1,0 +1,4 @@
+pub mod Cuts
+pub mod Laws
+pub mod Reached
+pub mod Solutions

@@ -1,0 +1,13 @@
+-- What solving comes to.
+use Rattle.std.specs.Prelude.{Result, Ok, Err}
+use Rattle.lp_rows.specs.declared.columns.WideAt.{WideAt}
+use Rattle.exact_simplex.specs.Log.{LogOf}
+use Rattle.answers.specs.declared.claim.Claim.{Claim}
+use Rattle.answers.specs.declared.stop.Stop.TheVariants.{Wide}
+use Rattle.rewrite_solving.specs.declared.reached.Reached.{Reached}
+use Rattle.rewrite_solving.specs.declared.reached.Reached.TheVariants.{Claimed, GaveUp}
+
+-- the claim; or a give-up with the log, where one of the claim's own tests is wide at this place
+abbrev pub reached_by : Result Claim WideAt → LogOf → Reached
+reached_by (Ok claim) log = Claimed claim
+reached_by (Err place) log = GaveUp log (Wide place)
