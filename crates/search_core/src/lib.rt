@@ -16,4 +16,4 @@ mod whole;
 pub use arena::{Arena, Leaf, Slot};
 pub use board::Board;
 pub use search::{Promising, Search, is_right};
-pub use whole::{Solved, solve_nodes};
+pub use whole::{Solved, search_nodes, solve_nodes};

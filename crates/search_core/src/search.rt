@@ -2,7 +2,7 @@
 
 ghost use Rattle.std.specs.Prelude.{◌≡◌, ◌<◌, [], List, IfOk, length};
 ghost use Rattle.proof_tree.specs.declared.path.Half.{Half};
-ghost use Rattle.search_rules.specs.Machine.{resting, start};
+ghost use Rattle.search_rules.specs.Machine.{resting, start, IsLegalLog};
 ghost use Rattle.search_rules.specs.Searching.{IsWithin, IsUnderWay};
 ghost use Rattle.search_core.specs.Boards.{searching_of};
 ghost use Rattle.search_rules.specs.Depth.{depth_place, are_halves};
@@ -117,6 +117,32 @@ impl<N: Promising> Search<N> {
         }
         Ok(Turn::Rested)
     }
+
+    /// Searches in the order of these picks, until all halves are opened, or the search is endless or stops: each turn
+    /// opens the half at the next pick in order of making, taken modulo how many wait, and past the last pick the half
+    /// made first.
+    pub fn search(&mut self, alloc: Global, picks: &[u32]) -> Result<Turn, TurnError>
+        requires start { (searching_of self.old).rest ≡ start }
+        requires log { (searching_of self.old).log.events ≡ [] }
+        requires within { IsWithin (searching_of self.old) }
+        ensures solves { SolvesBy (IsLegalLog (meaning_of (N.dead_of (searching_of self.old).nodes) (N.force_of (searching_of self.old).nodes) (N.loose_of (searching_of self.old).nodes) (N.test_of (searching_of self.old).nodes))) (searching_of self.old).steps (searching_of self.new).log.events (searching_of self.new).rest result }
+        ensures nodes { (searching_of self.new).nodes ≡ (searching_of self.old).nodes }
+        ensures within { IsWithin (searching_of self.new) }
+    {
+        let mut turns: usize = 0;
+        'turns: while !self.board.waiting.is_empty() {
+            let pick = picked(picks, turns, self.board.waiting.len());
+            turns = turns.wrapping_add(1);
+            match self.turn(alloc, pick) {
+                Ok(Turn::Rested) => {}
+                Ok(Turn::Endless { at, truths, ray }) => {
+                    return Ok(Turn::Endless { at, truths, ray });
+                }
+                Err(error) => return Err(error),
+            }
+        }
+        Ok(Turn::Rested)
+    }
 }
 
 impl<N: Promising + Drop> Search<N> {
@@ -176,6 +202,17 @@ pub fn is_right<N: Promising>(search: &Search<N>)
     requires done { (searching_of search.now).rest.waiting ≡ [] }
     ensures { Shows (words_of (N.problem (searching_of search.now).nodes) (meaning_of (N.dead_of (searching_of search.now).nodes) (N.force_of (searching_of search.now).nodes) (N.loose_of (searching_of search.now).nodes) (N.test_of (searching_of search.now).nodes))) (resting (searching_of search.now).rest) }
 {}
+
+// The pick of this turn, as a place among that many halves.
+fn picked(picks: &[u32], turn: usize, count: usize) -> usize
+    requires { 0 < count }
+    ensures { result < count }
+{
+    match picks.get(turn) {
+        None => 0,
+        Some(pick) => *pick as usize % count,
+    }
+}
 
 // The place of the half to open next in depth order.
 fn place(waiting: &[Waiting]) -> usize
