@@ -1,0 +1,13 @@
+//! Why an answer is refused.
+
+use certificate_checker::Refusal;
+use hybrid_rewrite::CompileError;
+
+/// Why an answer is refused.
+#[derive(Clone, Copy, Debug, PartialEq, Eq)]
+pub enum CheckError {
+    /// A test of the claim, or of a node of its proof, fails or is wide; or memory was wanted and not had.
+    Test(Refusal),
+    /// The model is not compiled by the answer's route. That it is for want of memory never stands here.
+    Rewrite(CompileError),
+}
