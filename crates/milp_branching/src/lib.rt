@@ -5,4 +5,4 @@ mod nodes;
 mod solving;
 
 pub use nodes::MilpNodes;
-pub use solving::solve_milp;
+pub use solving::{search_milp, solve_milp};
