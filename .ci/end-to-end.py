@@ -2,7 +2,8 @@
 """Runs the built program on real files, and compares status, output and error byte for byte with a table.
 
 `end-to-end.py [PROGRAM..]` tries the programs that `rt ci` built, and the launcher, or else those named. It prints a line
-for each row that fails and ends with `N passed, M failed`. The table is in `cases.py`.
+for each row that fails and ends with `N passed, M failed`. The table is in `cases.py`. The checker of answers in `tools/`, a
+program of its own, has its rows in `certificate_cases.py`.
 """
 
 import os
@@ -15,6 +16,7 @@ import threading
 import time
 
 sys.dont_write_bytecode = True
+import certificate_cases  # noqa: E402
 from cases import CLOSED, FULL, GONE, cases  # noqa: E402
 
 ROOT = pathlib.Path(__file__).resolve().parent.parent
@@ -147,6 +149,9 @@ def main(named):
                 print(f"end to end: {os.path.relpath(program, ROOT)}: {name}: {'; '.join(wrong)}")
             else:
                 passed += 1
+    wrong, count = certificate_cases.differences()
+    failed += len(wrong)
+    print(f"{count} answers given to tools/check_certificate.py", *(f"end to end: {line}" for line in wrong), sep="\n")
     print(f"{passed} passed, {failed} failed")
     return 1 if failed else 0
 

@@ -1,11 +1,11 @@
 #!/usr/bin/env python3
 """Checks the answer to a model, whoever wrote it: `check_certificate.py MODEL ANSWER`.
 
-One plain file that shares no code with the program that solves, nor with anything else here. It reads a model text and an answer
-text, as `docs/FORMATS.md` has them, and says `accepted` (status 0), or `rejected: ` and why (1), where a text is bad (2), where the
-program would leave 128 bits (3), or why the model can't be rewritten for the answer's route (4). What it accepts is true: the point
-satisfies the model and has the value, and the nodes show that none is better: each leaf adds up rows that hold there, times numbers
-that aren't negative, to a row that no point satisfies, or that bounds the goal; and the two halves of a node leave no point out.
+One plain file that shares no code with the program, nor with anything else here. It reads a model text and an answer text, and says
+`accepted` (status 0), or `rejected: ` and why (1), at which line a text is bad (2), where numbers leave 128 bits (3), or why the model
+can't be rewritten for the answer's route (4). What it accepts is true: the point satisfies the model and has the value, and the nodes
+show that none is better: each leaf adds up rows that hold there, times numbers that aren't negative, to a row that no point satisfies,
+or that bounds the objective; and the two halves of a node leave no point out.
 """
 
 import pathlib
@@ -154,8 +154,8 @@ class Model:
             return self.ids[word][1]
         need(tokens.pop() == "(")
         if word in ("exactly", "atleast", "atmost"):
-            count = tokens.pop()
-            need(count and re.fullmatch("0*[0-9]{1,4}", count) and int(count) <= 1000 and tokens.pop() == ",")
+            count = (tokens.pop() or "").lstrip("0") or "0"
+            need(re.fullmatch("[0-9]{1,4}", count) and int(count) <= 1000 and tokens.pop() == ",")
         end = ","
         while end == ",":
             inner.append(self.proposition(tokens, depth + 1))
@@ -559,6 +559,8 @@ def check(model, answer):
 def main(names):
     """Prints the line that is said, and gives the status."""
     try:
+        if len(names) != 2:
+            raise Verdict(7, "usage: check_certificate.py MODEL ANSWER")
         texts = [pathlib.Path(name).read_bytes() for name in names]
         for name, text, most in zip(names, texts, (8_388_608, 2**40)):
             if len(text) > most:
@@ -574,7 +576,7 @@ def main(names):
         raise Verdict(0, "accepted")
     except Verdict as verdict:
         status, line = verdict.args
-        print(line, file=sys.stderr if status in (2, 4) else sys.stdout)
+        print(line, file=sys.stderr if status in (2, 4, 7) else sys.stdout)
         return status
 
 

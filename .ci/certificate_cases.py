@@ -1,0 +1,124 @@
+"""Answers, and what `tools/check_certificate.py` has to say of them: by hand, and of drawn models by each route.
+
+`differences()` gives the names of the rows that fail, and how many there are.
+"""
+
+import contextlib
+import importlib.util
+import io
+import os
+import pathlib
+import tempfile
+
+from drawn_models import drawn_models
+from reference import answer
+from reference.enumeration import optimum
+from reference.texts import read_model
+
+ROUTES = ("bigm", "hull", "hybrid", "logic")
+DRAWN = 40
+STEPS = "40"
+GREATEST = str(2**127 - 1)
+
+MODEL = b"gdp 1\nvar n int 0 5\nmax n\nrow 2 n <= 7\n"
+ANSWER = b"gdp-answer 1\nroute bigm\nbest 3\nover 1\nval n 3\ntree\nint 0 3\nbounded 1 2:1\nrefuted 1:1 2:2\nend\n"
+EMPTY = b"gdp 1\nvar x real 0 1\ndisjunction xor\ndisjunct a\nend\ndisjunct b\nend\nend\nlogic exactly(2, a, b)\n"
+EMPTY_ANSWER = b"gdp-answer 1\nroute logic\nempty\ntree\ntruth 0\ntruth 1\nlogic 1\nlogic 0\nlogic 0\nend\n"
+ENDLESS = b"gdp 1\nvar x real 0 inf\nmax x\n"
+ENDLESS_ANSWER = b"gdp-answer 1\nroute bigm\nendless\nover 1\nval x 0\nstep x 1\nend\n"
+OPEN = b"gdp 1\nvar x real 0 inf\nmax x\ndisjunction xor\ndisjunct a\nrow x <= 3\nend\nend\n"
+OPEN_ANSWER = b"gdp-answer 1\nroute logic\nbest 3\nover 1\nval x 3\non a\ntree\ntruth 0\nbounded 1 0:1\nlogic 0\nend\n"
+
+
+def checker():
+    path = pathlib.Path(__file__).resolve().parent.parent / "tools" / "check_certificate.py"
+    spec = importlib.util.spec_from_file_location("check_certificate", path)
+    module = importlib.util.module_from_spec(spec)
+    spec.loader.exec_module(module)
+    return module
+
+
+def by_hand():
+    """Models, changed answers, and the line that is said; `A` is the name of the answer."""
+    def changed(name, old, new, said, model=MODEL, text=ANSWER):
+        assert old in text
+        return name, model, text.replace(old, new), said
+
+    deep = b"gdp-answer 1\nroute logic\nempty\ntree\n" + b"truth 0\n" * 100_000 + b"end\n"
+    return [
+        ("an optimum", MODEL, ANSWER, "accepted"),
+        ("no point", EMPTY, EMPTY_ANSWER, "accepted"),
+        ("an endless goal", ENDLESS, ENDLESS_ANSWER, "accepted"),
+        ("an optimum by logic", OPEN, OPEN_ANSWER, "accepted"),
+        changed("the same by logic", b"bigm", b"logic", "accepted"),
+        changed("a multiplier too small", b"2:2", b"2:1", "rejected: leaf at node 2"),
+        changed("a multiplier below 0", b"2:2", b"2:-2", "rejected: leaf at node 2"),
+        changed("a better value", b"best 3", b"best 4", "rejected: value"),
+        changed("a point that isn't one", b"n 3", b"n 6", "rejected: point at line 2"),
+        changed("a point past a row", b"n 3", b"n 4", "rejected: point at line 4"),
+        changed("a wide point", b"n 3", b"n " + GREATEST.encode(), "rejected: point at line 2"),
+        changed("a leaf missing", b"refuted 1:1 2:2\n", b"", "A: line 9: Shape"),
+        changed("a leaf too many", b"end\n", b"logic 0\nend\n", "A: line 10: Shape"),
+        changed("a scale of 0", b"bounded 1", b"bounded 0", "rejected: leaf at node 1"),
+        changed("a column that isn't there", b"int 0 3", b"int 1 3", "rejected: tree at node 0"),
+        changed("a split at the greatest number", b"int 0 3", f"int 0 {GREATEST}".encode(), "rejected: tree at node 0"),
+        changed("a row that isn't there", b"refuted 1:1 2:2", b"refuted 9:1", "rejected: leaf at node 2"),
+        changed("a wide sum", b"bounded 1 2:1", f"bounded 1 2:{GREATEST}".encode(), "wide: node 1"),
+        ("a split on no Boolean", MODEL, ANSWER.replace(b"bigm", b"logic").replace(b"int 0 3", b"truth 0"), "rejected: tree at node 0"),
+        changed("a bound where nothing is best", b"logic 1", b"bounded 1", "rejected: leaf at node 2", EMPTY, EMPTY_ANSWER),
+        changed("a condition that isn't false", b"logic 1", b"logic 0", "rejected: leaf at node 2", EMPTY, EMPTY_ANSWER),
+        changed("a Boolean twice", b"truth 1", b"truth 0", "rejected: tree at node 1", EMPTY, EMPTY_ANSWER),
+        changed("logic by a rewrite", b"route logic", b"route hull", "rejected: tree at node 0", EMPTY, EMPTY_ANSWER),
+        changed("no rewrite", b"route logic", b"route bigm", "no bound at line 6 for x", OPEN, OPEN_ANSWER),
+        changed("no rewrite, by its hull", b"route logic", b"route hull", "no bound at line 4 for x", OPEN, OPEN_ANSWER),
+        changed("a step back", b"step x 1", b"step x -1", "rejected: ray at line 2", ENDLESS, ENDLESS_ANSWER),
+        changed("no step", b"step x 1", b"step x 0", "rejected: ray at line 3", ENDLESS, ENDLESS_ANSWER),
+        ("a hundred thousand openings", EMPTY, deep, "A: line 100005: Shape"),
+        changed("another header", b"answer 1", b"answer 2", "A: line 1: Form"),
+        changed("not in lowest terms", b"best 3", b"best 6/2", "A: line 3: Form"),
+        changed("a written 1", b"best 3", b"best 3/1", "A: line 3: Form"),
+        changed("a name that isn't due", b"val n", b"val m", "A: line 5: Name"),
+        changed("over 0", b"over 1", b"over 0", "A: line 4: Number"),
+        changed("a number past 128 bits", b"val n 3", b"val n 170141183460469231731687303715884105728", "A: line 5: Number"),
+        changed("pairs out of order", b"1:1 2:2", b"2:2 1:1", "A: line 9: Form"),
+        changed("a multiplier of 0", b"1:1", b"1:0", "A: line 9: Form"),
+        ("no newline at the end", MODEL, ANSWER[:-1], "A: line 10: Form"),
+        ("a line after the end", MODEL, ANSWER + b"end\n", "A: line 11: Form"),
+        ("half a text", MODEL, ANSWER[: ANSWER.index(b"tree")], "A: line 6: Form"),
+        ("no text", MODEL, b"", "A: line 1: Form"),
+        ("a bad model", MODEL + b"end\n", ANSWER, "M: line 5: refused"),
+    ]
+
+
+def differences():
+    tool, wrong, count = checker(), [], 0
+
+    def said(model, text):
+        with tempfile.TemporaryDirectory() as folder:
+            names = [os.path.join(folder, name) for name in "MA"]
+            for name, contents in zip(names, (model, text)):
+                pathlib.Path(name).write_bytes(contents)
+            out = io.StringIO()
+            with contextlib.redirect_stdout(out), contextlib.redirect_stderr(out):
+                tool.main(names)
+        return out.getvalue().removeprefix(folder + os.sep).strip()
+
+    for name, model, text, line in by_hand():
+        count += 1
+        told = said(model, text)
+        wrong += [] if told == line else [f"certificate: {name}: {told!r} and not {line!r}"]
+    for at, model in enumerate(drawn_models(DRAWN)):
+        best = optimum(read_model(model))
+        for route in ROUTES:
+            status, text, _ = answer(["solve", route, STEPS, "M"], {"M": model})
+            if status == 0:
+                count += 1
+                kind = " ".join(["best", str(best[1])] if best and best[0] == "best" else best or ())
+                is_right = best is None or text.split(b"\n")[2].decode() == kind
+                told = said(model, text)
+                wrong += [] if told == "accepted" and is_right else [f"certificate: drawn {at}, {route}: {told}, and {kind} was reckoned"]
+    return wrong, count
+
+
+if __name__ == "__main__":
+    print(*differences(), sep="\n")
