@@ -1,4 +1,4 @@
-//! The program `gdp`: linear generalised disjunctive programs, read, tested and formatted.
+//! The program `gdp`: linear generalised disjunctive programs, read, tested, formatted and compiled.
 //!
 //! `main` makes a shelf over the host's files and two sinks over its streams, and calls [`run`] of `gdp_commands` with the
 //! words of the command line. All else is `run`, whose contract says what the program does.

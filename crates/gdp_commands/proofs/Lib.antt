@@ -1,6 +1,10 @@
 mod Behind
-mod Formatting
+mod CompileLaws
+mod Compiling
 mod OneAnswer
+mod OneRead
 mod Opened
+mod Programs
+mod Spelled
 mod Testing
 mod Unread

@@ -11,8 +11,14 @@ use Rattle.gdp_grammar.specs.declared.cause.ReadCause.{ReadCause}
 use Rattle.gdp_grammar.specs.Canonical.{canonical_text}
 use Rattle.gdp_grammar.proofs.Once.{one_model, never_both, one_first_bad}
 use Rattle.gdp_grammar.proofs.PointOnce.{one_point, never_point_and_bad, one_first_bad_of_point}
+use Rattle.hull_rewrite.specs.declared.choices.Choice.{Choice}
+use Rattle.hybrid_rewrite.specs.Chosen.{flagging}
+use Rattle.hybrid_rewrite.specs.Compiled.{CompiledValue, compiled}
+use Rattle.hybrid_rewrite.specs.declared.errors.CompileError.{CompileError}
+use Rattle.hybrid_rewrite.specs.declared.errors.CompileError.TheVariants.{NoBound, MTooWide, TooBig, Memory}
 use Rattle.gdp_commands.specs.declared.status.Status.{Status}
 use Rattle.gdp_commands.specs.declared.status.Status.TheVariants.{Done}
+use Rattle.gdp_commands.specs.Compile.{CompiledSays, CompileSays, RefusedSays}
 use Rattle.gdp_commands.specs.Format.{FormatSays}
 use Rattle.gdp_commands.specs.Table.{Answer, Is, FirstIf, For, Parsed, IsOne}
 use Rattle.gdp_commands.specs.Test.{VerdictSays, TestSays}
@@ -73,3 +79,17 @@ one_test model point model_text point_text =
 pub one_format : (model model_text : List ℕ) → IsOne (FormatSays model model_text)
 one_format model model_text =
     one_first_if _ _ _ _ (one_of_model model model_text _ (λ m. one_is Done (canonical_text m)))
+
+one_refused : (m : ModelTree) (error : CompileError) → IsOne (RefusedSays m error)
+one_refused m (NoBound mark var) = one_is _ _
+one_refused m (MTooWide mark) = one_is _ _
+one_refused m TooBig = one_is _ _
+one_refused m Memory = λ s s' t t' a b. absurd a
+
+one_compiled : (m : ModelTree) (answer : Result CompiledValue CompileError) → IsOne (CompiledSays m answer)
+one_compiled m (Ok value) = one_is _ _
+one_compiled m (Err error) = one_refused m error
+
+pub one_compile : (choice : Choice) (model model_text : List ℕ) → IsOne (CompileSays choice model model_text)
+one_compile choice model model_text =
+    one_first_if _ _ _ _ (one_of_model model model_text _ (λ m. one_compiled m (compiled m (flagging choice m))))

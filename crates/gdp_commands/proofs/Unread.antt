@@ -6,14 +6,15 @@ use Rattle.gdp_io.specs.Causes.{Rose}
 use Rattle.gdp_io.specs.Shelf.{Contents, SameContents, IsBehind}
 use Rattle.gdp_io.specs.declared.shelves.ReadAllError.{ReadAllError}
 use Rattle.gdp_io.specs.declared.shelves.ReadAllError.TheVariants as Error
-use Rattle.gdp_commands.specs.Answers.{Says, SaysFault, IsReplyTo}
+use Rattle.gdp_commands.specs.Answers.{Says, SaysFault, FitsBefore, IsReplyTo}
 use Rattle.gdp_commands.specs.Messages.{read_fault, too_long}
 use Rattle.gdp_commands.specs.Replies.{ReadFailed, text_of}
 use Rattle.gdp_commands.specs.Statuses.{IsWorked}
 use Rattle.gdp_commands.specs.Texts.{IsLong, IsLongBehind}
-use Rattle.gdp_commands.specs.Words.{Form}
-use Rattle.gdp_commands.specs.Words.Form.{Test, Format}
+use Rattle.gdp_commands.specs.Words.{Form, IsRead}
+use Rattle.gdp_commands.specs.Words.Form.{Test, Format, Compile}
 use Rattle.gdp_commands.specs.declared.replies.Reply.{Reply}
+use Rattle.hull_rewrite.specs.declared.choices.Choice.{Choice}
 use Rattle.gdp_commands.specs.declared.status.Status.{Status}
 use Rattle.gdp_commands.specs.declared.status.Status.TheVariants as status
 use Rattle.gdp_commands.proofs.Behind.{some_text, long_text}
@@ -45,15 +46,33 @@ if_replied form contents before now error name (Err memory) if_long if_fault fai
 if_replied form contents before now error name (Ok reply) if_long if_fault failed =
     if_failed form contents before now error name reply.status (text_of reply) if_long if_fault failed
 
+-- what a command that reads one text answers where it was not read
+one_unread : (form : Form) (contents : Contents) (before now : List ℕ → ℕ) (model : List ℕ) (error : ReadAllError) (result : Result Reply Memory) →
+    ((text : List ℕ) → IsBehind contents model text → IsLong text → Says form contents status.Text (too_long model)) →
+    IsRead form model → FitsBefore form contents model →
+    (error ≡ Error.TooLong → IsLongBehind contents model) → (error ≡ Error.Read → Rose (before model) (now model)) →
+    IfOk result (λ reply. ReadFailed error model reply.status (text_of reply)) →
+    IfOk result (λ reply. IsReplyTo form contents before now reply.status (text_of reply))
+one_unread form contents before now model error result says reads fits if_long if_rose =
+    if_replied form contents before now error model result
+    (λ is. let long = long_text contents model (if_long is) in says long.0 long.1 long.2)
+    (λ is. (model, reads, fits, if_rose is, refl))
+
 -- what `format` answers where its text was not read
 pub format_unread : (contents : Contents) (before now : List ℕ → ℕ) (model : List ℕ) (error : ReadAllError) (result : Result Reply Memory) →
     (error ≡ Error.TooLong → IsLongBehind contents model) → (error ≡ Error.Read → Rose (before model) (now model)) →
     IfOk result (λ reply. ReadFailed error model reply.status (text_of reply)) →
     IfOk result (λ reply. IsReplyTo (Format model) contents before now reply.status (text_of reply))
-format_unread contents before now model error result if_long if_rose =
-    if_replied (Format model) contents before now error model result
-    (λ is. let long = long_text contents model (if_long is) in (long.0, long.1, inl (long.2, (refl, refl))))
-    (λ is. (model, refl, tt, if_rose is, refl))
+format_unread contents before now model error result =
+    one_unread (Format model) contents before now model error result (λ text behind long. (text, behind, inl (long, (refl, refl)))) refl tt
+
+-- and `compile`
+pub compile_unread : (choice : Choice) (contents : Contents) (before now : List ℕ → ℕ) (model : List ℕ) (error : ReadAllError) (result : Result Reply Memory) →
+    (error ≡ Error.TooLong → IsLongBehind contents model) → (error ≡ Error.Read → Rose (before model) (now model)) →
+    IfOk result (λ reply. ReadFailed error model reply.status (text_of reply)) →
+    IfOk result (λ reply. IsReplyTo (Compile choice model) contents before now reply.status (text_of reply))
+compile_unread choice contents before now model error result =
+    one_unread (Compile choice model) contents before now model error result (λ text behind long. (text, behind, inl (long, (refl, refl)))) refl tt
 
 -- what `test` answers where the model's text was not read
 pub model_unread : (contents : Contents) (before now : List ℕ → ℕ) (model point : List ℕ) (error : ReadAllError) (result : Result Reply Memory) →

@@ -1,8 +1,9 @@
 -- The form that a command was read from.
 use Rattle.gdp_commands.specs.declared.words.Command.{Command}
-use Rattle.gdp_commands.specs.declared.words.Command.TheVariants.{Test, Format}
+use Rattle.gdp_commands.specs.declared.words.Command.TheVariants.{Test, Format, Compile}
 use Rattle.gdp_commands.specs.Words.{Form}
 
 abbrev pub form_of : Command → Form
 form_of (Test model point) = Form.Test model.now point.now
 form_of (Format model) = Form.Format model.now
+form_of (Compile choice model) = Form.Compile choice model.now

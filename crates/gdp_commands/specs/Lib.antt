@@ -1,5 +1,7 @@
 pub mod Answers
 pub mod Command
+pub mod Compile
+pub mod CompileLaws
 pub mod Format
 pub mod Messages
 pub mod Replies

@@ -41,3 +41,15 @@ fails_at mark = line (codes "fails at line " ++ decimal mark)
 
 abbrev pub wide_at : ℕ → List ℕ
 wide_at mark = line (codes "wide at line " ++ decimal mark)
+
+-- a bound of the variable with this name is missing, at the line of what needs it
+abbrev pub no_bound_at : ℕ → List ℕ → List ℕ
+no_bound_at mark name = line (codes "no bound at line " ++ decimal mark ++ codes " for " ++ name)
+
+-- a number of a relaxed row passes 10^15, at the line of the row
+abbrev pub too_wide_at : ℕ → List ℕ
+too_wide_at mark = line (codes "too wide at line " ++ decimal mark)
+
+-- a limit on columns or rows would be passed
+abbrev pub too_big : List ℕ
+too_big = line (codes "too big")

@@ -11,6 +11,7 @@ ghost use Rattle.gdp_commands.specs.Statuses.{IsOut, IsRefused, IsWorked};
 ghost use Rattle.gdp_commands.specs.Streams.{Sent};
 ghost use Rattle.gdp_commands.specs.Words.{Form, IsForm, NoForm, names_of, words_of};
 
+use crate::compile_command::compile_command;
 use crate::format_command::format_command;
 use crate::replies::Reply;
 use crate::status::Status;
@@ -94,5 +95,6 @@ fn answer<S: Shelf>(alloc: Global, command: Command<'_>, shelf: &mut S) -> Resul
     match command {
         Command::Test { model, point } => test_command(alloc, shelf, model, point),
         Command::Format { model } => format_command(alloc, shelf, model),
+        Command::Compile { choice, model } => compile_command(alloc, shelf, choice, model),
     }
 }

@@ -5,11 +5,13 @@
 //! names, that text goes to `out` or to `err`, and a read or a write is reported as failed only where a count of faults
 //! rose.
 //!
-//! Read `specs/Words.antt`, `specs/Table.antt`, `specs/Test.antt` and `specs/Format.antt`, then `commands.rt`, `streams.rt`,
-//! `fetched.rt`, `replies.rt`, `test_command.rt` and `format_command.rt`.
+//! Read `specs/Words.antt`, `specs/Table.antt`, `specs/Test.antt`, `specs/Format.antt` and `specs/Compile.antt`, then
+//! `commands.rt`, `streams.rt`, `fetched.rt`, `replies.rt`, `test_command.rt`, `format_command.rt` and `compile_command.rt`.
 #![tactic(auto)]
 
 mod commands;
+mod compile_command;
+pub mod compile_laws;
 mod fetched;
 mod format_command;
 mod messages;

@@ -1,8 +1,10 @@
 //! The words of the command line.
-ghost use Rattle.std.specs.Prelude.{◌≡◌, IfSome, IfNone, codes, ◌≢◌};
-ghost use Rattle.gdp_commands.specs.Words.{Form, IsForm, NoForm, words_of};
+ghost use Rattle.std.specs.Prelude.{◌≡◌, ◌≢◌, [], ◌∷◌, IfSome, IfNone, codes};
+ghost use Rattle.gdp_commands.specs.Words.{Form, IsForm, NoForm, choice_word, words_of};
 ghost use Rattle.gdp_commands.specs.Command.{form_of};
-ghost use Rattle.gdp_commands.specs.Words.Form.{Test, Format};
+ghost use Rattle.gdp_commands.specs.Words.Form.{Format};
+
+use hybrid_rewrite::Choice;
 
 /// A command, with what its words stand for.
 #[derive(Clone, Copy, Debug)]
@@ -11,6 +13,8 @@ pub enum Command<'a> {
     Test { model: &'a str, point: &'a str },
     /// Writes the canonical text of a model, which is a name for the shelf.
     Format { model: &'a str },
+    /// Writes the program of a model, whose disjunctions are rewritten as the choice says.
+    Compile { choice: Choice, model: &'a str },
 }
 
 /// The command that the words are a form of.
@@ -41,14 +45,39 @@ fn parse_two<'a>(command: &str, first: &'a str) -> Option<Command<'a>>
 
 /// The command of three words.
 fn parse_three<'a>(command: &str, first: &'a str, second: &'a str) -> Option<Command<'a>>
-    ensures form { IfSome result (λ it. (command.now ≡ codes "test") × (form_of it ≡ Test first.now second.now)) }
-    ensures none { IfNone result (command.now ≢ codes "test") }
+    ensures form { IfSome result (λ it. IsForm (command.now ∷ first.now ∷ second.now ∷ []) (form_of it)) }
+    ensures none { IfNone result (NoForm (command.now ∷ first.now ∷ second.now ∷ [])) }
 {
     match command {
         "test" => Some(Command::Test {
             model: first,
             point: second,
         }),
+        "compile" => parse_compile(first, second),
+        _ => None,
+    }
+}
+
+/// The command that compiles, where the word is a choice's.
+fn parse_compile<'a>(word: &str, model: &'a str) -> Option<Command<'a>>
+    ensures form { IfSome result (λ it. IsForm (codes "compile" ∷ word.now ∷ model.now ∷ []) (form_of it)) }
+    ensures none { IfNone result ((choice : Choice) → word.now ≢ choice_word choice) }
+{
+    match parse_choice(word) {
+        Some(choice) => Some(Command::Compile { choice, model }),
+        None => None,
+    }
+}
+
+/// The choice of this word.
+fn parse_choice(word: &str) -> Option<Choice>
+    ensures some { IfSome result (λ choice. word.now ≡ choice_word choice) }
+    ensures none { IfNone result ((choice : Choice) → word.now ≢ choice_word choice) }
+{
+    match word {
+        "bigm" => Some(Choice::BigM),
+        "hull" => Some(Choice::Hull),
+        "hybrid" => Some(Choice::Hybrid),
         _ => None,
     }
 }

@@ -8,4 +8,4 @@
 
 mod put;
 
-pub use put::lp_text;
+pub use put::{lp_text, put_milp};

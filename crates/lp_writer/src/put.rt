@@ -271,6 +271,14 @@ fn put_program(alloc: Global, text: &mut Text, milp: &Milp) -> Result<(), Memory
     text.append(alloc, b"End\n")
 }
 
+/// Appends the text of a program.
+#[tactic(auto, unfolding(lp_grammar::specs::Canonical::lp_text_of))]
+pub fn put_milp(alloc: Global, text: &mut Text, milp: &Milp) -> Result<(), Memory>
+    ensures { OnOk result (text.new ≡ text.old ++ lp_text_of milp.now) }
+{
+    put_program(alloc, text, milp)
+}
+
 /// The text of a program. It spells the program with constant 0 and scale 1, where there is a column and no term is 0.
 #[tactic(auto, unfolding(lp_grammar::specs::Canonical::lp_text_of))]
 pub fn lp_text(alloc: Global, milp: &Milp) -> Result<Text, Memory>

@@ -1,11 +1,11 @@
-use Rattle.gdp_commands.proofs.Formatting.{if_read}
+use Rattle.gdp_commands.proofs.OneRead.{format_read}
 use Rattle.gdp_commands.proofs.Opened.{one_opened}
 use Rattle.gdp_commands.proofs.Unread.{format_unread}
 use Rattle.gdp_commands.proofs.format_command.format_command.Goals as goal
 
 pub returns-in-Ok-clause-replies : goal.returns-in-Ok-clause-replies
 returns-in-Ok-clause-replies g c =
-    if_read _ (g.S.Shelf.faults c.args.shelf.now) (g.S.Shelf.faults c.fetch.new.shelf) _ _ c.format.result
+    format_read _ (g.S.Shelf.faults c.args.shelf.now) (g.S.Shelf.faults c.fetch.new.shelf) _ _ c.format.result
     c.in-Ok.ensures.text c.format.ensures.worked c.format.ensures.says
 
 pub returns-in-Ok-clause-opens : goal.returns-in-Ok-clause-opens
