@@ -1,46 +1,16 @@
 """The table of the end-to-end check: words, files, and what the program has to write."""
 
-import dataclasses
 import os
 
+import compile_cases
+from case import CLOSED, FULL, GONE, MODEL, Case, at, tested
 from drawn_texts import drawn_texts
 from full_model import LAST, LIMIT, full_model, point
 from reference import answer
 
-FULL = "a full device"
-GONE = "a pipe that nobody reads"
-CLOSED = "a closed stream"
 MIB = 2**20
 GREATEST = 2**127 - 1
 LEAST = -(2**127)
-
-MODEL = b"gdp 1\nvar x real 0 10\nrow 2 x <= 7\n"
-
-
-@dataclasses.dataclass
-class Case:
-    """A row. `out` and `err` are bytes to compare, or what the stream leads to; `files` are relative, None is a folder;
-    `stdin` is a list of pieces that are written to it; `room` is the most address space that the program has."""
-
-    name: str
-    words: list
-    files: dict
-    status: int
-    out: object = b""
-    err: object = b""
-    stdin: object = None
-    room: int = 0
-    is_long: bool = False
-
-
-def at(*values):
-    """The text of a point of a model whose variables are x, y and z, as far as values are given."""
-    return point("xyz"[: len(values)], values)
-
-
-def tested(name, model, at_point, status, out=b"", err=b"", **more):
-    """A row of `test M P` on these two texts."""
-    return Case(name, ["test", "M", "P"], {"M": model, "P": at_point}, status, out, err, **more)
 
 
 def verdicts():
@@ -592,7 +562,7 @@ def words():
     table = [[], ["test"], ["test", "M"], ["test", "M", "P", "P"], ["Test", "M", "P"], ["tes", "M", "P"], ["test ", "M", "P"]]
     table += [["", "M", "P"], ["M", "P"], ["M", "test", "P"], ["--", "test", "M", "P"], ["--help"], ["testing", "M", "P"]]
     table += [["format"], ["format", "M", "P"], ["Format", "M"], ["M", "format"], ["test", "format"]]
-    later = ["compile bigm M", "solve bigm 100 M", "solve simplex 5 M", "check M P", "lp 100 M", "make 0 1", "bench bigm 100 0 1"]
+    later = ["solve bigm 100 M", "solve simplex 5 M", "check M P", "lp 100 M", "make 0 1", "bench bigm 100 0 1"]
     refused = [Case(f"words: {line}", line, files, 7, err=b"words refused\n") for line in table + [line.split() for line in later]]
     return refused + [Case("words: no text of Unicode", ["test", b"M\xff", "P"], files, 9)]
 
@@ -705,7 +675,7 @@ def streams():
 
 def examples(root):
     """Each example with its points, read where it stands, and its canonical text; the README of the examples says the lines."""
-    said = {"blend": 11, "delivery": 16, "tank": 8, "process_route": 20, "transport": 34, "schedule": 9, "site_selection": 58, "plant_units": 33}
+    said = {"blend": 11, "courier": 11, "delivery": 16, "tank": 8, "process_route": 20, "transport": 34, "schedule": 9, "site_selection": 58, "plant_units": 33}
     folder = root / "examples"
     rows = []
     for path in sorted(folder.glob("*.gdp")):
@@ -721,8 +691,9 @@ def examples(root):
 def checked(table):
     """The table, once what it says of texts is what the second way of reading them says too."""
     for case in table:
-        is_told = case.status in (0, 1, 2, 3) and isinstance(case.out, bytes) and isinstance(case.err, bytes)
-        if is_told and not case.is_long and all(isinstance(case.files.get(name), bytes) for name in case.words[1:]):
+        is_told = case.status in (0, 1, 2, 3, 4) and isinstance(case.out, bytes) and isinstance(case.err, bytes)
+        named = case.words[2:] if case.words[:1] == ["compile"] else case.words[1:]
+        if is_told and not case.is_long and all(isinstance(case.files.get(name), bytes) for name in named):
             told = answer(case.words, case.files)
             assert told == (case.status, case.out, case.err), f"{case.name}: the table has {case.status, case.out, case.err}, and {told} was reckoned"
     return table
@@ -740,4 +711,5 @@ def drawn(count):
 def cases(root):
     """The whole table."""
     told = verdicts() + spellings() + refusals() + choices() + formats() + truths() + propositions() + words() + reads() + sizes() + streams() + examples(root)
-    return checked(told) + drawn(600)
+    told += compile_cases.compile_rows() + compile_cases.examples(root)
+    return checked(told) + drawn(600) + compile_cases.drawn()

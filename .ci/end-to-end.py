@@ -2,10 +2,12 @@
 """Runs the built program on real files, and compares status, output and error byte for byte with a table.
 
 `end-to-end.py [PROGRAM..]` tries the programs that `rt ci` built, and the launcher, or else those named. It prints a line
-for each row that fails and ends with `N passed, M failed`. The table is in `cases.py`. The checker of answers in `tools/`, a
-program of its own, has its rows in `certificate_cases.py`.
+for each row that fails and ends with `N passed, M failed`. The table is in `cases.py`. Where glpsol and cbc are installed, they
+are given the LP texts of the table. The checker of answers in `tools/`, a program of its own, has its rows in
+`certificate_cases.py`.
 """
 
+import concurrent.futures
 import os
 import pathlib
 import resource
@@ -17,7 +19,10 @@ import time
 
 sys.dont_write_bytecode = True
 import certificate_cases  # noqa: E402
-from cases import CLOSED, FULL, GONE, cases  # noqa: E402
+import lp_solvers  # noqa: E402
+from case import CLOSED, FULL, GONE  # noqa: E402
+from cases import cases  # noqa: E402
+from compile_cases import lp_texts, optima  # noqa: E402
 
 ROOT = pathlib.Path(__file__).resolve().parent.parent
 BUILT = ROOT / "crates" / "gdp_cli" / "out"
@@ -134,6 +139,25 @@ def rows(program, table):
         yield case.name, lambda case=case: run(program, case)
 
 
+def ask_solvers(table):
+    """Gives the texts of the table with which glpsol has a complaint, and those of which glpsol or cbc finds another optimum."""
+    wrong, known = [], list(optima())
+    with concurrent.futures.ThreadPoolExecutor() as pool:
+        if lp_solvers.has_glpsol():
+            texts = lp_texts(table)
+            complaints = pool.map(lp_solvers.glpsol_complaint, [text for _, text in texts])
+            wrong += [f"{name}: glpsol: {said}" for (name, _), said in zip(texts, complaints) if said]
+            print(f"{len(texts)} LP texts given to glpsol")
+        for solver, is_here, optimum in (("glpsol", lp_solvers.has_glpsol(), lp_solvers.glpsol_optimum), ("cbc", lp_solvers.has_cbc(), lp_solvers.cbc_optimum)):
+            if not is_here:
+                print(f"what {solver} says of LP texts: left out, since there is no {solver} here")
+                continue
+            for (name, _, exact), told in zip(known, pool.map(optimum, [text for _, text, _ in known])):
+                wrong += [] if told and lp_solvers.agrees(told, exact) else [f"{name}: {solver} finds {told}, and {exact} was reckoned"]
+            print(f"{len(known)} optima found by {solver}")
+    return wrong
+
+
 def main(named):
     programs = [os.path.abspath(name) for name in named]
     if not programs:
@@ -150,8 +174,10 @@ def main(named):
             else:
                 passed += 1
     wrong, count = certificate_cases.differences()
-    failed += len(wrong)
-    print(f"{count} answers given to tools/check_certificate.py", *(f"end to end: {line}" for line in wrong), sep="\n")
+    print(f"{count} answers given to tools/check_certificate.py")
+    for line in wrong + ask_solvers(table):
+        failed += 1
+        print(f"end to end: {line}")
     print(f"{passed} passed, {failed} failed")
     return 1 if failed else 0
 

@@ -3,7 +3,8 @@
 term of each variable, propositions of 5,000 names and connectives, 8,388,608 bytes.
 
 `full_model.py FOLDER` writes `full.gdp`, `full.point`, at which its last row holds with nothing to spare, and
-`full-fails.point`, at which the last row, on line `LAST`, is one short.
+`full-fails.point`, at which the last row, on line `LAST`, is one short; and `compiled.gdp`, which is as large and whose program
+keeps the limits on rows too: it has fewer and longer propositions.
 """
 
 import pathlib
@@ -16,19 +17,22 @@ ROWS = 1_000
 CHAINS = 25
 DEPTH = 8
 NODES = 5_000
+# Of the model that compiles, how many blocks of each chain have a proposition.
+LOGICAL = 3
 # Of each block the lines that open it, its rows, its proposition, and the lines that close it.
 PER_BLOCK = ROWS // (CHAINS * DEPTH)
 LAST = 1 + VARIABLES + CHAINS * DEPTH * (2 + PER_BLOCK) + (CHAINS - 1) * DEPTH * 3
 
 
-def full_model():
+def full_model(is_compiled=False):
     """Gives the model's text, a point that holds, and a point that fails at the last row."""
+    logical = LOGICAL if is_compiled else DEPTH
     draw = random.Random(1)
     names = [f"f{j:03}" for j in range(VARIABLES)]
     values = [draw.randint(1, 99) for _ in names]
     head = "gdp 1\n" + "".join(f"var {name} real 0 100\n" for name in names)
     opening = [f"disjunction or\ndisjunct b{k:03}\n" for k in range(CHAINS * DEPTH)]
-    closing = [f"{proposition(k)}end\nend\n" for k in range(CHAINS * DEPTH)]
+    closing = [f"{proposition(k, logical) if k % DEPTH < logical else ''}end\nend\n" for k in range(CHAINS * DEPTH)]
 
     def row(digits, relation, right):
         numbers = [draw.randint(10 ** (n - 1), 10**n - 1) for n in digits]
@@ -54,10 +58,10 @@ def full_model():
     return "".join(text).encode(), point(names, values, true), point(names, [values[0] - 1] + values[1:], true)
 
 
-def proposition(block):
+def proposition(block, logical):
     """Gives the line of a block's proposition: at least one of the Booleans up to the innermost below it, named in turns."""
     known = block - block % DEPTH + DEPTH
-    atoms = NODES // (CHAINS * DEPTH) - 1
+    atoms = NODES // (CHAINS * logical) - 1
     return f"logic atleast(1, {', '.join(f'b{j % known:03}' for j in range(atoms))})\n"
 
 
@@ -71,3 +75,4 @@ if __name__ == "__main__":
     folder = pathlib.Path(sys.argv[1])
     for name, text in zip(("full.gdp", "full.point", "full-fails.point"), full_model()):
         (folder / name).write_bytes(text)
+    (folder / "compiled.gdp").write_bytes(full_model(is_compiled=True)[0])
