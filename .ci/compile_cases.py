@@ -268,6 +268,7 @@ def commands():
     reckoned = answer(["compile", "bigm", "M"], {"M": largest})[1]
     rows += [
         Case("size: the largest model that compiles", ["compile", "bigm", "M"], {"M": largest}, 0, reckoned, is_long=True),
+        Case("memory: too little for the program", ["compile", "bigm", "M"], {"M": largest}, 8, err=b"out of memory\n", room=24 * 2**20, is_long=True),
         Case("size: the full model, compiled", ["compile", "hull", "M"], {"M": full_model()[0]}, 4, err=b"too big\n", is_long=True),
         Case("compile: no model", ["compile", "bigm", "N"], files, 5, err=b"read fault: N\n"),
         Case("compile: a folder", ["compile", "hull", "M"], {"M": None}, 5, err=b"read fault: M\n"),
