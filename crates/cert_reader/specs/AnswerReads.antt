@@ -1,18 +1,15 @@
 -- What the lines of an answer give, and how their reader answers.
-use Rattle.std.specs.Prelude.{◌≡◌, ℤ, pos, ◌≤ℤ◌, ℕ, Bool, true, false, ◌||◌, List, [], ◌∷◌, ◌++◌, Result, Ok, Err, codes, if◌then◌else◌}
+use Rattle.std.specs.Prelude.{◌≡◌, ℤ, pos, ◌≤ℤ◌, ℕ, Bool, true, false, ◌||◌, List, [], ◌∷◌, ◌++◌, Result, Ok, Err}
 use Rattle.text_grammar.specs.Grammars.{IsFirstBadBy}
-use Rattle.text_grammar.specs.Outcomes.{◌>>=◌, or_cause}
+use Rattle.text_grammar.specs.Outcomes.{◌>>=◌}
 use Rattle.cert_grammar.specs.declared.cause.CertCause.{CertCause}
-use Rattle.cert_grammar.specs.declared.cause.CertCause.TheVariants as cause
-use Rattle.cert_grammar.specs.Answers.{AnswerTaken, at_due, are_two, is_one, second_of, named_number, behind_nodes, answer_grammar}
+use Rattle.cert_grammar.specs.Answers.{named_number, answer_grammar}
 use Rattle.cert_grammar.specs.declared.due.Due.{Due}
-use Rattle.cert_grammar.specs.declared.due.Due.TheVariants.{RouteLine, ClaimLine, Steps, LastLine, Nothing}
+use Rattle.cert_grammar.specs.declared.due.Due.TheVariants.{Steps, LastLine, Nothing}
 use Rattle.cert_grammar.specs.declared.due.ClaimKind.{ClaimKind}
 use Rattle.cert_grammar.specs.declared.due.ClaimKind.TheVariants.{IsBest, IsEmpty, IsEndless}
-use Rattle.cert_grammar.specs.Claims.{route_of}
 use Rattle.answers.specs.declared.answer.Answer.{Answer}
 use Rattle.cert_grammar.specs.ExactLines.{exact_lines}
-use Rattle.cert_grammar.specs.Trees.{with_words}
 use Rattle.cert_reader.specs.declared.fault.LineFault.{LineFault}
 use Rattle.cert_reader.specs.declared.fault.CertError.{CertError}
 use Rattle.cert_reader.specs.declared.fault.CertError.TheVariants as error
