@@ -11,7 +11,7 @@ use std::alloc::Global;
 const MOST: usize = 8;
 
 /// How many bytes a sink takes in all.
-const ROOM: usize = 100;
+const ROOM: usize = 2_000;
 
 /// Which call fails on the shelf, on `out` and on `err`; 0 where none does.
 #[derive(Clone, Copy, Debug)]

@@ -14,7 +14,7 @@ use script::{Trouble, first_word, shown, split};
 use std::alloc::Global;
 use std::io::Read;
 use std::process::ExitCode;
-use texts::{Texts, blanks, bytes};
+use texts::{Texts, add_often, blanks, bytes};
 
 /// Plays a line, and says what it answers. A line that begins with `#` heads those below it.
 fn play(alloc: Global, texts: &mut Texts, line: &str) -> Result<String, Trouble> {
@@ -24,6 +24,7 @@ fn play(alloc: Global, texts: &mut Texts, line: &str) -> Result<String, Trouble>
     let (call, text) = first_word(line);
     match call {
         "model" => texts.model = bytes(alloc, text)?,
+        "more" => add_often(alloc, &mut texts.model, text)?,
         "point" => texts.point = bytes(alloc, text)?,
         "blank_model" => texts.model = blanks(alloc, text)?,
         "blank_point" => texts.point = blanks(alloc, text)?,

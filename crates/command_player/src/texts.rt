@@ -1,6 +1,6 @@
 //! The texts behind the names `M` and `P`, and how a script spells them.
 
-use script::Trouble;
+use script::{Trouble, first_word};
 use std::alloc::Global;
 
 /// What stands behind `M` and behind `P`.
@@ -36,6 +36,19 @@ pub fn bytes(alloc: Global, text: &str) -> Result<Vec<u8>, Trouble> {
         }
     }
     Ok(bytes)
+}
+
+/// Adds a text that many times, where the first word is how often.
+pub fn add_often(alloc: Global, bytes: &mut Vec<u8>, words: &str) -> Result<(), Trouble> {
+    let (count, text) = first_word(words);
+    let Ok(count) = count.parse::<usize>() else {
+        return Err(Trouble::Line);
+    };
+    let more = self::bytes(alloc, text)?;
+    for _ in 0..count {
+        bytes.extend_from_slice(more.as_slice())?;
+    }
+    Ok(())
 }
 
 /// A text of that many blanks.
