@@ -1,0 +1,21 @@
+-- What solving promises of a claim that it makes.
+use Rattle.std.specs.Prelude.{ℕ, Ok}
+use Rattle.model_tree.specs.Values.{ModelTree}
+use Rattle.answers.specs.declared.answer.Route.{Route}
+use Rattle.answers.specs.declared.claim.Claim.{Claim}
+use Rattle.answer_checker.specs.Valid.{IsValid}
+use Rattle.answer_tests.specs.Counted.{IsCounted}
+use Rattle.answer_tests.specs.Laws.{IsTrueOf}
+use Rattle.rewrite_solving.specs.declared.reached.Reached.TheVariants.{Claimed}
+use Rattle.gdp_solve.specs.Solved.{IsSolution}
+
+-- what is claimed has a number for each variable and a truth for each Boolean, it is true of the model, and the answer by
+-- this route passes each of the checker's tests
+pub record IsRightClaim (m : ModelTree) (route : Route) (claim : Claim) : Type 0 where
+  pub counted : IsCounted m claim
+  pub true_of : IsTrueOf m claim
+  pub valid : IsValid m (record { route = route; claim = claim })
+
+-- each claim that solving makes by a route is so
+abbrev pub ClaimsAreRight : Type 0
+ClaimsAreRight = (m : ModelTree) (route : Route) (steps : ℕ) (claim : Claim) → IsSolution m route steps (Ok (Claimed claim)) → IsRightClaim m route claim
