@@ -4,3 +4,4 @@ pub mod Normal
 pub mod Gathered
 pub mod Measured
 pub mod Kept
+pub mod Sorting
