@@ -2,15 +2,20 @@
 //! disjunctions and its program, a term a line. A word that is a choice's name says how the disjunctions of the models
 //! after it are rewritten, at first all by big-M.
 //!
+//! A file whose name ends in `.calls` is played by lines instead: each builds a program call by call, up to its limits.
+//!
 //! It is a test: the models stand in `data`, the words in `args`, and the answers, which come from another
 //! implementation, in `stdout`.
 #![tactic(auto)]
+
+mod calls;
 
 use block_tree::Model;
 use gdp_reader::read_model;
 use hybrid_rewrite::{Choice, CompileError, compile};
 use lp_rows::{Kind, Rel, Sense, Sign};
 use milps::Milp;
+use script::Trouble;
 use std::env::Env;
 use std::io::Print;
 use std::process::ExitCode;
@@ -35,6 +40,12 @@ impl From<io::Error> for Refused {
 impl<T: Drop> From<std::alloc::AllocFailed<T>> for Refused {
     fn from(_refused: std::alloc::AllocFailed<T>) -> Refused {
         Refused::Memory
+    }
+}
+
+impl From<Trouble> for Refused {
+    fn from(_trouble: Trouble) -> Refused {
+        Refused::Refused
     }
 }
 
@@ -139,6 +150,15 @@ fn choice_of(word: &str) -> Option<Choice> {
     }
 }
 
+// Writes what each line of calls answers.
+fn print_calls(rt: &(impl Print + AllocGlobal), text: &str) -> Result<(), Refused> {
+    for line in text.lines() {
+        let answer = calls::play(rt.alloc(), line)?;
+        println!(rt; "{answer}")?;
+    }
+    Ok(())
+}
+
 // Writes the program of the model in a file.
 fn print_file(
     rt: &(impl Print + Files + AllocGlobal),
@@ -149,6 +169,9 @@ fn print_file(
     println!(rt; "file {name}")?;
     if text.len() > 1_000_000 {
         return Err(Refused::Refused);
+    }
+    if name.ends_with(".calls") {
+        return print_calls(rt, text.as_str());
     }
     match read_model(rt.alloc(), text.as_str().as_bytes()) {
         Ok(model) => print_compiled(rt, &model, choice)?,
