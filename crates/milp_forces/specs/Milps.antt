@@ -46,6 +46,7 @@ IsIn (split.Int j k) false over numbers = numbers j ≤ℤ (k *ℤ over)
 IsIn (split.Int j k) true over numbers = ((k +ℤ pos 1) *ℤ over) ≤ℤ numbers j
 IsIn (split.Truth id) second over numbers = ⊥
 
+-- the numbers are in every half of the path
 abbrev pub IsOnPath : List Half → ℤ → (ℕ → ℤ) → Type 0
 IsOnPath [] over numbers = Unit {0}
 IsOnPath (h ∷ p) over numbers = IsIn h.split h.second over numbers × IsOnPath p over numbers
@@ -57,10 +58,12 @@ pub record IsIntSplit (m : MilpValue) (j : ℕ) (k : ℤ) : Type 0 where
   pub narrow : is_narrow k ≡ true
   pub next_narrow : is_narrow (k +ℤ pos 1) ≡ true
 
+-- a split that may stand in a program: of an integer column
 abbrev pub Allows : MilpValue → Split → Type 0
 Allows m (split.Int j k) = IsIntSplit m j k
 Allows m (split.Truth id) = ⊥
 
+-- each split of the path may stand
 abbrev pub AreAllowed : MilpValue → List Half → Type 0
 AreAllowed m [] = Unit {0}
 AreAllowed m (h ∷ p) = Allows m h.split × AreAllowed m p

@@ -21,6 +21,7 @@ use Rattle.search_rules.specs.Machine.{Meaning}
 use Rattle.search_rules.specs.Turns.{meaning_of}
 use Rattle.milp_forces.specs.Forces.{goal_of, force_at}
 
+-- the number over the denominator is whole
 abbrev pub is_whole : ℤ → ℤ → Bool
 is_whole number over = nat_eq (unsigned_abs number % unsigned_abs over) 0
 
@@ -43,9 +44,11 @@ floor (negsuc n) over = negsuc (n / unsigned_abs over)
 abbrev pub is_inner : ℤ → Bool
 is_inner k = is_narrow k && is_narrow (k +ℤ pos 1)
 
+-- the split of a column at a number, wide at an end of i128
 abbrev pub split_at : ℕ → ℤ → Result Found WideAt
 split_at j k = if is_inner k then Ok (found.Split (split.Int j k)) else Err Value
 
+-- what the test finds at the first integer column whose number is not whole
 abbrev pub tested : PointValue → Option ℕ → Result Found WideAt
 tested x None = Ok (found.Point [])
 tested x (Some j) = split_at j (floor (at x.nums j) x.over)
@@ -67,6 +70,7 @@ pub record IsPointAt (m : MilpValue) (p : List Half) (x : Candidate) : Type 0 wh
   pub on_path : IsOnPath p x.at.over (at x.at.nums)
   pub truths : x.truths ≡ []
 
+-- the problem of a program: its points on a path, its goal, its splits and its rays
 abbrev pub problem_of : MilpValue → Problem
 problem_of m = record {
   holds = λ p x. IsPointAt m p x;

@@ -8,6 +8,7 @@ use Rattle.search_core.specs.declared.arena.Leaf.TheVariants as kind
 use Rattle.proof_tree.specs.Tree.{Closure, refuted, bounded, logic_false}
 use Rattle.search_rules.specs.Machine.{Draft, open_node, leaf_node, fork_node}
 
+-- what closes a leaf, as the rules see it
 abbrev pub closure_of : leaves.Leaf → Closure
 closure_of (kind.Refuted ms) = refuted ms
 closure_of (kind.Bounded scale ms) = bounded scale ms
@@ -28,6 +29,7 @@ draft_at (suc f) ss n = grown (draft_at f ss) n (get_or ss n Open)
 abbrev pub IsArena : List Slot → Type 0
 IsArena ss = (n j : ℕ) (s : Split) → get_or ss n Open ≡ Fork s j → (n < j) × (j + 1 < length ss)
 
+-- the draft of the nodes made, from the root
 abbrev pub draft_of : List Slot → Draft
 draft_of ss = draft_at (length ss) ss 0
 

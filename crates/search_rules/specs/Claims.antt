@@ -22,6 +22,7 @@ pub record Candidate : Type 0 where
   pub at : PointValue
   pub truths : List Bool
 
+-- a point with these truths
 abbrev pub found_at : PointValue → List Bool → Candidate
 found_at at truths = record { at = at; truths = truths }
 
@@ -42,10 +43,12 @@ abbrev pub AtLeast : Words → Option Fraction → Candidate → Type 0
 AtLeast w None x = ⊥
 AtLeast w (Some value) x = w.at_least value x
 
+-- the value is less than the best one, if there is one
 abbrev pub IsLess : Words → Fraction → Option Fraction → Type 0
 IsLess w value None = Unit {0}
 IsLess w value (Some best) = w.less value best
 
+-- the best value, if there is one, has a positive denominator
 abbrev pub IsProper : Words → Option Fraction → Type 0
 IsProper w None = Unit {0}
 IsProper w (Some value) = w.proper value
@@ -64,12 +67,14 @@ pub data Settling (m : Meaning) (p : List Half) (kept : Option (List ℤ)) (best
 abbrev pub Closes : Words → List Half → Option Fraction → Closure → Type 0
 Closes w p best c = w.closes p c best
 
+-- the point found is on the path and better than the best so far, and its leaf closes the node
 pub record IsBetter (w : Words) (p : List Half) (best : Option Fraction) (at : PointValue) (truths : List Bool) (value : Fraction) (scale : ℤ) (ms : List (ℕ × ℤ)) : Type 0 where
   pub holds : w.holds p (found_at at truths)
   pub has_value : w.has_value (found_at at truths) value
   pub less : IsLess w value best
   pub closes : w.closes p (bounded scale ms) (Some value)
 
+-- the split may stand at the path, and both halves are ready
 pub record IsParted (w : Words) (p : List Half) (kept : Option (List ℤ)) (s : Split) (ray : Option (List ℤ)) : Type 0 where
   pub allowed : w.allows p s
   pub first_ready : w.ready (first s ∷ p) (below kept ray)
@@ -84,6 +89,7 @@ IsTrueEnding w p kept best (ends.Better at truths value scale ms) = IsBetter w p
 IsTrueEnding w p kept best (ends.Split s ray) = IsParted w p kept s ray
 IsTrueEnding w p kept best (ends.Endless at truths ray) = w.endless (found_at at truths) ray
 
+-- what the words and the nodes promise each other
 pub record AreSound (w : Words) (m : Meaning) : Type 0 where
   pub start : w.ready [] None
   pub above : (h : Half) (p : List Half) (x : Candidate) → w.holds (h ∷ p) x → w.holds p x

@@ -24,10 +24,12 @@ depth_place (h ∷ []) = 0
 depth_place (g ∷ h ∷ []) = if are_halves g.event h.event then 0 else 1
 depth_place (f ∷ g ∷ h ∷ hs) = 1 + depth_place (g ∷ h ∷ hs)
 
+-- what opens the half, if there is one
 abbrev pub event_of : Option Waiting → Option Event
 event_of None = None
 event_of (Some h) = Some h.event
 
+-- what opens the half at a place
 abbrev pub event_at : List Waiting → ℕ → Option Event
 event_at hs p = event_of (slice_get hs p)
 

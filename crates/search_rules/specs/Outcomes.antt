@@ -6,10 +6,12 @@ use Rattle.search_rules.specs.declared.outcome.Outcome.{Outcome}
 use Rattle.search_rules.specs.declared.outcome.Outcome.TheVariants.{Best, Empty}
 use Rattle.search_rules.specs.Claims.{Words, IsShown}
 
+-- the claim is true, and its proof shows it
 abbrev pub IsRightOutcome : Words → Outcome → Type 0
 IsRightOutcome w (Best best proof) = IsShown w (Some best) proof
 IsRightOutcome w (Empty proof) = IsShown w None proof
 
+-- the outcome of a best point, or of none
 abbrev pub outcome_of : Option found.Best → List Node → Outcome
 outcome_of None proof = Empty proof
 outcome_of (Some best) proof = Best best proof

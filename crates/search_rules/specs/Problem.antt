@@ -29,6 +29,7 @@ pub record Problem : Type 1 where
 abbrev pub goal_at : Problem → Candidate → ℤ
 goal_at w x = dot w.goal (at x.at.nums)
 
+-- each split of the path may stand where it stands
 abbrev pub IsAllowed : Problem → List Half → Type 0
 IsAllowed w [] = Unit {0}
 IsAllowed w (h ∷ p) = w.allows p h.split × IsAllowed w p
@@ -47,11 +48,13 @@ abbrev pub PassesBound : Force → ℤ → List (ℕ × ℤ) → Option Fraction
 PassesBound force scale ms None = ⊥
 PassesBound force scale ms (Some value) = Reaches force scale ms value
 
+-- the same of any leaf
 abbrev pub Passes : Problem → Meaning → List Half → Closure → Option Fraction → Type 0
 Passes w m p (refuted ms) best = verdict (refute_tests (m.site p true).force ms) ≡ Ok true
 Passes w m p (bounded scale ms) best = PassesBound (m.site p true).force scale ms best
 Passes w m p (logic_false item) best = w.is_false p item
 
+-- the words of a problem whose leaves close by the exact tests
 abbrev pub words_of : Problem → Meaning → Words
 words_of w m = record {
   holds = w.holds;
