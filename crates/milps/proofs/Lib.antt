@@ -4,4 +4,3 @@ pub mod Normal
 pub mod Gathered
 pub mod Measured
 pub mod Kept
-pub mod Sorting
