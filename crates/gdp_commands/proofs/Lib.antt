@@ -1,10 +1,14 @@
 mod Behind
 mod CompileLaws
 mod Compiling
+mod Counts
+mod Delivered
+mod FourWords
 mod OneAnswer
 mod OneRead
 mod Opened
 mod Programs
+mod Solving
 mod Spelled
 mod Testing
 mod Unread

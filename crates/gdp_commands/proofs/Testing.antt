@@ -2,7 +2,6 @@
 use Rattle.std.proofs.Common.{◌≡◌, ℕ, Bool, List, Result, Ok, Err, ◌∙◌, subst, ap, inl, inr}
 use Rattle.std.specs.Result.{IfOk}
 use Rattle.outcomes.specs.declared.memory.Memory.{Memory}
-use Rattle.gdp_io.specs.Shelf.{Contents, SameContents, IsBehind}
 use Rattle.lp_rows.specs.Points.{PointValue}
 use Rattle.point_tests.specs.declared.verdicts.Verdict.{Verdict}
 use Rattle.point_tests.specs.declared.verdicts.SumWide.{SumWide}
@@ -12,12 +11,9 @@ use Rattle.model_tree.specs.Values.{ModelTree}
 use Rattle.gdp_grammar.specs.Points.{SpellsPoint}
 use Rattle.gdp_grammar.specs.Spelling.{Spells}
 use Rattle.gdp_commands.specs.declared.replies.Reply.{Reply}
-use Rattle.gdp_commands.specs.Answers.{IsReplyTo}
 use Rattle.gdp_commands.specs.Replies.{text_of}
-use Rattle.gdp_commands.specs.Statuses.{IsWorked}
 use Rattle.gdp_commands.specs.Test.{VerdictSays, TestedSays, TestSays}
 use Rattle.gdp_commands.specs.Texts.{IsLong, PointSays}
-use Rattle.gdp_commands.specs.Words.Form.{Test}
 
 -- the verdict on the point that the text spells
 pub if_point : (m : ModelTree) (point point_text bytes : List ℕ) (at : PointValue) (truths flags : List Bool) (verdict : Result Verdict SumWide) (result : Result Reply Memory) →
@@ -38,15 +34,3 @@ pub if_model : (model point model_text point_text : List ℕ) (m : ModelTree) (r
 if_model model point model_text point_text m (Err memory) short_model short_point is_model says = tt
 if_model model point model_text point_text m (Ok reply) short_model short_point is_model says =
     inr (short_model, inr (short_point, inr (m, is_model, says)))
-
--- the table of the texts that were read is that of texts behind the names
-pub if_both_read : (contents between : Contents) (before now : List ℕ → ℕ) (model point model_text point_text : List ℕ) (result : Result Reply Memory) →
-    SameContents contents between → IsBehind contents model model_text → IsBehind between point point_text → IfOk result (λ reply. IsWorked reply.status) →
-    IfOk result (λ reply. TestSays model point model_text point_text reply.status (text_of reply)) →
-    IfOk result (λ reply. IsReplyTo (Test model point) contents before now reply.status (text_of reply))
-if_both_read contents between before now model point model_text point_text (Err memory) same is_model is_point worked says = tt
-if_both_read contents between before now model point model_text point_text (Ok reply) same is_model is_point worked says = record {
-  one = inl worked;
-  says = λ _. (model_text, is_model, (point_text, (λ all revealed. is_point all (same point ∙ revealed)), says));
-  fault = λ is. absurd (subst IsWorked is worked);
-}

@@ -1,5 +1,5 @@
 -- What a command answers where a text was not read.
-use Rattle.std.proofs.Common.{◌≡◌, ℕ, ◌≤◌, arith, List, Result, Ok, Err, refl, sym, ◌∙◌, subst, inl, inr}
+use Rattle.std.proofs.Common.{◌≡◌, ℕ, ◌≤◌, arith, List, Some, Result, Ok, Err, refl, sym, ◌∙◌, subst, inl, inr}
 use Rattle.std.specs.Result.{IfOk}
 use Rattle.outcomes.specs.declared.memory.Memory.{Memory}
 use Rattle.gdp_io.specs.Causes.{Rose}
@@ -12,8 +12,9 @@ use Rattle.gdp_commands.specs.Replies.{ReadFailed, text_of}
 use Rattle.gdp_commands.specs.Statuses.{IsWorked}
 use Rattle.gdp_commands.specs.Texts.{IsLong, IsLongBehind}
 use Rattle.gdp_commands.specs.Words.{Form, IsRead}
-use Rattle.gdp_commands.specs.Words.Form.{Test, Format, Compile}
+use Rattle.gdp_commands.specs.Words.Form.{Test, Format, Compile, Solve, Check}
 use Rattle.gdp_commands.specs.declared.replies.Reply.{Reply}
+use Rattle.answers.specs.declared.answer.Route.{Route}
 use Rattle.hull_rewrite.specs.declared.choices.Choice.{Choice}
 use Rattle.gdp_commands.specs.declared.status.Status.{Status}
 use Rattle.gdp_commands.specs.declared.status.Status.TheVariants as status
@@ -74,28 +75,72 @@ pub compile_unread : (choice : Choice) (contents : Contents) (before now : List 
 compile_unread choice contents before now model error result =
     one_unread (Compile choice model) contents before now model error result (λ text behind long. (text, behind, inl (long, (refl, refl)))) refl tt
 
--- what `test` answers where the model's text was not read
+-- and `solve`
+pub solve_unread : (route : Route) (steps : ℕ) (contents : Contents) (before now : List ℕ → ℕ) (model : List ℕ) (error : ReadAllError) (result : Result Reply Memory) →
+    (error ≡ Error.TooLong → IsLongBehind contents model) → (error ≡ Error.Read → Rose (before model) (now model)) →
+    IfOk result (λ reply. ReadFailed error model reply.status (text_of reply)) →
+    IfOk result (λ reply. IsReplyTo (Solve route steps model) contents before now reply.status (text_of reply))
+solve_unread route steps contents before now model error result =
+    one_unread (Solve route steps model) contents before now model error result (λ text behind long. (text, behind, inl (long, (refl, refl)))) refl tt
+
+-- what a command that reads two texts answers where the first was not read
+first_unread : (form : Form) (contents : Contents) (before now : List ℕ → ℕ) (model other : List ℕ) (error : ReadAllError) (result : Result Reply Memory) →
+    ((one two : List ℕ) → IsBehind contents model one → IsBehind contents other two → IsLong one → Says form contents status.Text (too_long model)) →
+    IsRead form model → FitsBefore form contents model →
+    (error ≡ Error.TooLong → IsLongBehind contents model) → (error ≡ Error.Read → Rose (before model) (now model)) →
+    IfOk result (λ reply. ReadFailed error model reply.status (text_of reply)) →
+    IfOk result (λ reply. IsReplyTo form contents before now reply.status (text_of reply))
+first_unread form contents before now model other error result says reads fits if_long if_rose =
+    if_replied form contents before now error model result
+    (λ is. let long = long_text contents model (if_long is) in let two = some_text contents other in says long.0 two.0 long.1 two.1 long.2)
+    (λ is. (model, reads, fits, if_rose is, refl))
+
+-- and where the first was read, and the second was not
+second_unread : (form : Form) (contents between : Contents) (before now : List ℕ → ℕ) (model other model_text : List ℕ) (error : ReadAllError) (result : Result Reply Memory) →
+    ((two : List ℕ) → IsBehind contents other two → IsLong two → Says form contents status.Text (too_long other)) →
+    IsRead form other → (((all : List ℕ) → contents model ≡ Some all → ¬ IsLong all) → FitsBefore form contents other) →
+    SameContents contents between → IsBehind contents model model_text → ¬ IsLong model_text →
+    (error ≡ Error.TooLong → IsLongBehind between other) → (error ≡ Error.Read → Rose (before other) (now other)) →
+    IfOk result (λ reply. ReadFailed error other reply.status (text_of reply)) →
+    IfOk result (λ reply. IsReplyTo form contents before now reply.status (text_of reply))
+second_unread form contents between before now model other model_text error result says reads fits same is_model short if_long if_rose =
+    if_replied form contents before now error other result
+    (λ is. let long = long_text contents other (λ all revealed. if_long is all (same other ∙ revealed)) in says long.0 long.1 long.2)
+    (λ is. (other, reads, fits (λ all revealed long. short (subst IsLong (sym (is_model all revealed)) long)), if_rose is, refl))
+
+-- so `test` answers
 pub model_unread : (contents : Contents) (before now : List ℕ → ℕ) (model point : List ℕ) (error : ReadAllError) (result : Result Reply Memory) →
     (error ≡ Error.TooLong → IsLongBehind contents model) → (error ≡ Error.Read → Rose (before model) (now model)) →
     IfOk result (λ reply. ReadFailed error model reply.status (text_of reply)) →
     IfOk result (λ reply. IsReplyTo (Test model point) contents before now reply.status (text_of reply))
-model_unread contents before now model point error result if_long if_rose =
-    if_replied (Test model point) contents before now error model result
-    (λ is. let long = long_text contents model (if_long is) in let other = some_text contents point in
-    (long.0, long.1, (other.0, other.1, inl (long.2, (refl, refl)))))
-    (λ is. (model, inl refl, inl refl, if_rose is, refl))
+model_unread contents before now model point error result =
+    first_unread (Test model point) contents before now model point error result (λ one two a b long. (one, a, (two, b, inl (long, (refl, refl))))) (inl refl) (inl refl)
 
--- what `test` answers where the model's text was read, and the point's was not
 pub point_unread : (contents between : Contents) (before now : List ℕ → ℕ) (model point model_text : List ℕ) (error : ReadAllError) (result : Result Reply Memory) →
     SameContents contents between → IsBehind contents model model_text → ¬ IsLong model_text →
     (error ≡ Error.TooLong → IsLongBehind between point) → (error ≡ Error.Read → Rose (before point) (now point)) →
     IfOk result (λ reply. ReadFailed error point reply.status (text_of reply)) →
     IfOk result (λ reply. IsReplyTo (Test model point) contents before now reply.status (text_of reply))
-point_unread contents between before now model point model_text error result same is_model short if_long if_rose =
-    if_replied (Test model point) contents before now error point result
-    (λ is. let long = long_text contents point (λ all revealed. if_long is all (same point ∙ revealed)) in
-    (model_text, is_model, (long.0, long.1, inr (short, inl (long.2, (refl, refl))))))
-    (λ is. (point, inr refl, inr (λ all revealed long. short (subst IsLong (sym (is_model all revealed)) long)), if_rose is, refl))
+point_unread contents between before now model point model_text error result same is_model short =
+    second_unread (Test model point) contents between before now model point model_text error result
+    (λ two b long. (model_text, is_model, (two, b, inr (short, inl (long, (refl, refl)))))) (inr refl) (λ fits. inr fits) same is_model short
+
+-- and so `check`
+pub checked_unread : (contents : Contents) (before now : List ℕ → ℕ) (model answer : List ℕ) (error : ReadAllError) (result : Result Reply Memory) →
+    (error ≡ Error.TooLong → IsLongBehind contents model) → (error ≡ Error.Read → Rose (before model) (now model)) →
+    IfOk result (λ reply. ReadFailed error model reply.status (text_of reply)) →
+    IfOk result (λ reply. IsReplyTo (Check model answer) contents before now reply.status (text_of reply))
+checked_unread contents before now model answer error result =
+    first_unread (Check model answer) contents before now model answer error result (λ one two a b long. (one, a, (two, b, inl (long, (refl, refl))))) (inl refl) (inl refl)
+
+pub answer_unread : (contents between : Contents) (before now : List ℕ → ℕ) (model answer model_text : List ℕ) (error : ReadAllError) (result : Result Reply Memory) →
+    SameContents contents between → IsBehind contents model model_text → ¬ IsLong model_text →
+    (error ≡ Error.TooLong → IsLongBehind between answer) → (error ≡ Error.Read → Rose (before answer) (now answer)) →
+    IfOk result (λ reply. ReadFailed error answer reply.status (text_of reply)) →
+    IfOk result (λ reply. IsReplyTo (Check model answer) contents before now reply.status (text_of reply))
+answer_unread contents between before now model answer model_text error result same is_model short =
+    second_unread (Check model answer) contents between before now model answer model_text error result
+    (λ two b long. (model_text, is_model, (two, b, inr (short, inl (long, (refl, refl)))))) (inr refl) (λ fits. inr fits) same is_model short
 
 -- a count that rose after another call rose
 pub risen : (before between now : ℕ) → before ≤ between → Rose between now → Rose before now

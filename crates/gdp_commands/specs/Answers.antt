@@ -4,15 +4,17 @@ use Rattle.gdp_io.specs.Causes.{Rose}
 use Rattle.gdp_io.specs.Shelf.{Contents, IsBehind}
 use Rattle.gdp_commands.specs.declared.status.Status.{Status}
 use Rattle.gdp_commands.specs.declared.status.Status.TheVariants.{Read}
+use Rattle.gdp_commands.specs.Check.{CheckSays}
 use Rattle.gdp_commands.specs.Compile.{CompileSays}
 use Rattle.gdp_commands.specs.Format.{FormatSays}
 use Rattle.gdp_commands.specs.Messages.{read_fault}
+use Rattle.gdp_commands.specs.Solve.{SolveSays}
 use Rattle.gdp_commands.specs.Statuses.{IsWorked}
 use Rattle.gdp_commands.specs.Table.{Answer, For}
 use Rattle.gdp_commands.specs.Test.{TestSays}
 use Rattle.gdp_commands.specs.Texts.{IsLong}
 use Rattle.gdp_commands.specs.Words.{Form, IsRead}
-use Rattle.gdp_commands.specs.Words.Form.{Test, Format, Compile}
+use Rattle.gdp_commands.specs.Words.Form.{Test, Format, Compile, Solve, Check}
 
 -- The command answers by texts that stand behind its names: those that the shelf reveals, and any others where it hides them.
 abbrev pub Says : Form → Contents → Answer
@@ -26,12 +28,21 @@ Says (Format model) contents =
 Says (Compile choice model) contents =
     For (IsBehind contents model) (λ model_text.
     CompileSays choice model model_text)
+Says (Solve route steps model) contents =
+    For (IsBehind contents model) (λ model_text.
+    SolveSays route steps model model_text)
+Says (Check model answer) contents =
+    For (IsBehind contents model) (λ model_text.
+    For (IsBehind contents answer) (λ answer_text.
+    CheckSays model answer model_text answer_text))
 
 -- no text that is read before this name is too long, where the contents are revealed
 abbrev pub FitsBefore : Form → Contents → List ℕ → Type 0
 FitsBefore (Test model point) contents name = (name ≡ model) ⊎ ((all : List ℕ) → contents model ≡ Some all → ¬ IsLong all)
 FitsBefore (Format model) contents name = Unit {0}
 FitsBefore (Compile choice model) contents name = Unit {0}
+FitsBefore (Solve route steps model) contents name = Unit {0}
+FitsBefore (Check model answer) contents name = (name ≡ model) ⊎ ((all : List ℕ) → contents model ≡ Some all → ¬ IsLong all)
 
 -- the count of a name that the command reads rose, what is read before it is not too long, and the text names it
 abbrev pub SaysFault : Form → Contents → (List ℕ → ℕ) → (List ℕ → ℕ) → List ℕ → Type 0

@@ -1,10 +1,12 @@
 pub mod Answers
+pub mod Check
 pub mod Command
 pub mod Compile
 pub mod CompileLaws
 pub mod Format
 pub mod Messages
 pub mod Replies
+pub mod Solve
 pub mod Statuses
 pub mod Streams
 pub mod Table

@@ -1,6 +1,5 @@
 -- A table of answers: the first condition that holds decides the status and the text.
 use Rattle.std.specs.Prelude.{◌≡◌, ◌⊎◌, ℕ, List}
-use Rattle.gdp_grammar.specs.declared.cause.ReadCause.{ReadCause}
 use Rattle.gdp_commands.specs.declared.status.Status.{Status}
 
 -- which status and which text are right
@@ -20,9 +19,9 @@ abbrev pub For : {A : Type 0} → (A → Type 0) → (A → Answer) → Answer
 For {A} is below = λ s t. (x : A) × is x × below x s t
 
 -- where what was read is bad at a line for a cause, this status and the text of that; else as below for what it is
-abbrev pub Parsed : {A : Type 0} → (ℕ → ReadCause → Type 0) → Status → (ℕ → ReadCause → List ℕ) → (A → Type 0) → (A → Answer) → Answer
-Parsed {A} is_bad status message is below = λ s t.
-    ((line : ℕ) × (cause : ReadCause) × is_bad line cause × Is status (message line cause) s t) ⊎ For is below s t
+abbrev pub Parsed : {A C : Type 0} → (ℕ → C → Type 0) → Status → (ℕ → C → List ℕ) → (A → Type 0) → (A → Answer) → Answer
+Parsed {A} {C} is_bad status message is below = λ s t.
+    ((line : ℕ) × (cause : C) × is_bad line cause × Is status (message line cause) s t) ⊎ For is below s t
 
 -- at most one status and text
 abbrev pub IsOne : Answer → Type 0

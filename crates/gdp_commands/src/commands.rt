@@ -11,9 +11,11 @@ ghost use Rattle.gdp_commands.specs.Statuses.{IsOut, IsRefused, IsWorked};
 ghost use Rattle.gdp_commands.specs.Streams.{Sent};
 ghost use Rattle.gdp_commands.specs.Words.{Form, IsForm, NoForm, names_of, words_of};
 
+use crate::check_command::check_command;
 use crate::compile_command::compile_command;
 use crate::format_command::format_command;
 use crate::replies::Reply;
+use crate::solve_command::solve_command;
 use crate::status::Status;
 use crate::streams::{deliver, say};
 use crate::test_command::test_command;
@@ -96,5 +98,11 @@ fn answer<S: Shelf>(alloc: Global, command: Command<'_>, shelf: &mut S) -> Resul
         Command::Test { model, point } => test_command(alloc, shelf, model, point),
         Command::Format { model } => format_command(alloc, shelf, model),
         Command::Compile { choice, model } => compile_command(alloc, shelf, choice, model),
+        Command::Solve {
+            route,
+            steps,
+            model,
+        } => solve_command(alloc, shelf, route, steps, model),
+        Command::Check { model, answer } => check_command(alloc, shelf, model, answer),
     }
 }

@@ -74,7 +74,7 @@ fn compile_model(alloc: Global, choice: Choice, model: &Model) -> Result<Reply, 
 }
 
 /// The answer of a refusal.
-fn refuse(alloc: Global, model: &Model, error: CompileError) -> Result<Reply, Memory>
+pub fn refuse(alloc: Global, model: &Model, error: CompileError) -> Result<Reply, Memory>
     ensures worked { IfOk result (λ reply. IsWorked reply.status) }
     ensures says { IfOk result (λ reply. RefusedSays (model_tree model.now) error reply.status (reply_text reply)) }
 {

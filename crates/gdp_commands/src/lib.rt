@@ -5,10 +5,11 @@
 //! names, that text goes to `out` or to `err`, and a read or a write is reported as failed only where a count of faults
 //! rose.
 //!
-//! Read `specs/Words.antt`, `specs/Table.antt`, `specs/Test.antt`, `specs/Format.antt` and `specs/Compile.antt`, then
-//! `commands.rt`, `streams.rt`, `fetched.rt`, `replies.rt`, `test_command.rt`, `format_command.rt` and `compile_command.rt`.
+//! Read `specs/Words.antt` and `specs/Table.antt`, a table for each command (`Test`, `Format`, `Compile`, `Solve`, `Check`),
+//! then `commands.rt`, `streams.rt`, `fetched.rt`, `replies.rt`, and a file for each command.
 #![tactic(auto)]
 
+mod check_command;
 mod commands;
 mod compile_command;
 pub mod compile_laws;
@@ -16,6 +17,7 @@ mod fetched;
 mod format_command;
 mod messages;
 mod replies;
+mod solve_command;
 mod status;
 mod streams;
 mod test_command;

@@ -22,6 +22,7 @@ pub fn say<E: Sink>(err: &mut E, text: &[u8])
 /// more goes to `out`.
 pub fn deliver<K: Sink, E: Sink>(reply: &Reply, out: &mut K, err: &mut E) -> Status
     ensures status { result ≢ reply.now.status → (IsOut reply.now.status × (result ≡ Status.Write)) }
+    ensures same { result ≢ Status.Write → result ≡ reply.now.status }
     ensures out { IsOut result → (K.written out.new ≡ grown (K.written out.old) (text_of reply.now)) × (E.written err.new ≡ E.written err.old) }
     ensures err { ¬ IsOut reply.now.status → (K.written out.new ≡ K.written out.old) × Sent (E.written err.old) (E.written err.new) (E.faults err.old) (E.faults err.new) (text_of reply.now) }
     ensures write { result ≢ reply.now.status → Rose (K.faults out.old) (K.faults out.new) × WrotePrefix (K.written out.old) (K.written out.new) (text_of reply.now)

@@ -1,5 +1,5 @@
 use Rattle.gdp_commands.proofs.Opened.{first_of_two, both_in_order, both_opened}
-use Rattle.gdp_commands.proofs.Testing.{if_both_read}
+use Rattle.gdp_commands.proofs.OneRead.{test_read}
 use Rattle.gdp_commands.proofs.Unread.{model_unread, point_unread, risen}
 use Rattle.gdp_commands.proofs.test_command.test_command.Goals as goal
 
@@ -27,7 +27,7 @@ returns-in-Err-second-clause-opens g c =
 
 pub returns-clause-replies : goal.returns-clause-replies
 returns-clause-replies g c =
-    if_both_read _ _ (g.S.Shelf.faults c.args.shelf.now) (g.S.Shelf.faults c.fetch-second.new.shelf) _ _ _ _ c.judge.result
+    test_read _ _ (g.S.Shelf.faults c.args.shelf.now) (g.S.Shelf.faults c.fetch-second.new.shelf) _ _ _ _ c.judge.result
     c.fetch-first.ensures.contents c.in-Ok.ensures.text c.in-Ok-second.ensures.text c.judge.ensures.worked c.judge.ensures.says
 
 pub returns-clause-opens : goal.returns-clause-opens
