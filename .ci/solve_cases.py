@@ -209,7 +209,7 @@ def commands():
         Case("check: out: a full device", check, files, 6, FULL, b"write fault\n"),
         Case("check: out: a full device, rejected", check, {"M": SMALL, "A": ANSWER.replace(b"best 3", b"best 4")}, 6, FULL, b"write fault\n"),
         Case("memory: too little to solve", solve, {"M": largest}, 8, err=b"out of memory\n", room=24 * 2**20, is_long=True),
-        Case("memory: too little to check", check, {"M": TWO, "A": deep}, 8, err=b"out of memory\n", room=12 * 2**20, is_long=True),
+        Case("memory: too little to check", check, {"M": TWO, "A": deep}, 8, err=b"out of memory\n", room=24 * 2**20, is_long=True),
     ]
 
 
@@ -307,6 +307,7 @@ def examples(root):
             if at % 2 and block.startswith(("gdp-answer 1\n", "gdp-log 1\n")) and words:
                 (*line, name), status = words.pop(), 3 if block.startswith("gdp-log") else 0
                 files = {} if name.startswith("examples/") else {name: named.setdefault(name, model)}
+                assert files or model in (b"", (root / name).read_bytes()), f"{page}: {name} is not as shown"
                 rows.append(Case(f"{page}: {line} {name}", [*line, name if files else str(root / name)], files, status, block.encode()))
     return rows
 
