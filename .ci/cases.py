@@ -3,10 +3,12 @@
 import os
 
 import compile_cases
+import solve_cases
 from case import CLOSED, FULL, GONE, MODEL, Case, at, tested
 from drawn_texts import drawn_texts
 from full_model import LAST, LIMIT, full_model, point
 from reference import answer
+from reference.commands import form_of
 
 MIB = 2**20
 GREATEST = 2**127 - 1
@@ -562,7 +564,7 @@ def words():
     table = [[], ["test"], ["test", "M"], ["test", "M", "P", "P"], ["Test", "M", "P"], ["tes", "M", "P"], ["test ", "M", "P"]]
     table += [["", "M", "P"], ["M", "P"], ["M", "test", "P"], ["--", "test", "M", "P"], ["--help"], ["testing", "M", "P"]]
     table += [["format"], ["format", "M", "P"], ["Format", "M"], ["M", "format"], ["test", "format"]]
-    later = ["solve bigm 100 M", "solve simplex 5 M", "check M P", "lp 100 M", "make 0 1", "bench bigm 100 0 1"]
+    later = ["lp 100 M", "make 0 1", "bench bigm 100 0 1"]
     refused = [Case(f"words: {line}", line, files, 7, err=b"words refused\n") for line in table + [line.split() for line in later]]
     return refused + [Case("words: no text of Unicode", ["test", b"M\xff", "P"], files, 9)]
 
@@ -675,7 +677,7 @@ def streams():
 
 def examples(root):
     """Each example with its points, read where it stands, and its canonical text; the README of the examples says the lines."""
-    said = {"blend": 11, "courier": 11, "delivery": 16, "tank": 8, "process_route": 20, "transport": 34, "schedule": 9, "site_selection": 58, "plant_units": 33}
+    said = {"blend": 11, "courier": 11, "power": 13, "delivery": 16, "tank": 8, "process_route": 20, "transport": 34, "schedule": 9, "site_selection": 58, "plant_units": 33}
     folder = root / "examples"
     rows = []
     for path in sorted(folder.glob("*.gdp")):
@@ -692,8 +694,8 @@ def checked(table):
     """The table, once what it says of texts is what the second way of reading them says too."""
     for case in table:
         is_told = case.status in (0, 1, 2, 3, 4) and isinstance(case.out, bytes) and isinstance(case.err, bytes)
-        named = case.words[2:] if case.words[:1] == ["compile"] else case.words[1:]
-        if is_told and not case.is_long and all(isinstance(case.files.get(name), bytes) for name in named):
+        form = form_of(case.words)
+        if is_told and not case.is_long and form and all(isinstance(case.files.get(name), bytes) for name in form[2]):
             told = answer(case.words, case.files)
             assert told == (case.status, case.out, case.err), f"{case.name}: the table has {case.status, case.out, case.err}, and {told} was reckoned"
     return table
@@ -711,5 +713,5 @@ def drawn(count):
 def cases(root):
     """The whole table."""
     told = verdicts() + spellings() + refusals() + choices() + formats() + truths() + propositions() + words() + reads() + sizes() + streams() + examples(root)
-    told += compile_cases.compile_rows() + compile_cases.examples(root)
-    return checked(told) + drawn(600) + compile_cases.drawn()
+    told += compile_cases.compile_rows() + compile_cases.examples(root) + solve_cases.solve_rows() + solve_cases.examples(root)
+    return checked(told) + drawn(600) + compile_cases.drawn() + solve_cases.drawn() + solve_cases.stepped(root)

@@ -129,7 +129,7 @@ def ask_launcher(word):
 def rows(program, table):
     """Gives the name of each row for the program, and a call that says what differs.
 
-    The launcher hands everything through but what it answers by itself, so the rows that take long are left to the program.
+    The launcher hands everything through but what it answers by itself, so the rows that take long, or are many, are left to the program.
     """
     if program == LAUNCHER:
         table = [case for case in table if not case.is_long and case.words not in [[word] for word in ITS_OWN]]

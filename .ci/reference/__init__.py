@@ -5,7 +5,8 @@ comparing: it is slow, short, and shares no code with the program, not even the 
 
 `texts` reads models and points and tests a point, `rewriting` compiles a model to a mixed-integer program, `programs` holds
 such a program and writes it as LP text. `solving` finds an optimum with its certificate by `search`, which goes down a tree of
-nodes by the moves of `simplex`; `enumeration` finds an optimum by trying every setting, apart from all of these.
+nodes by the moves of `simplex`; `checking` asks the checker in `tools/`, and `enumeration` finds an optimum by trying every
+setting, both apart from all of these.
 """
 
 from .commands import answer

@@ -2,6 +2,7 @@
 
 import re
 
+from .checking import check_texts
 from .programs import lp_text
 from .rewriting import Refusal, compiled
 from .solving import ROUTES, solved
@@ -30,15 +31,23 @@ def solve_model(files, route, steps, name):
     return solved(read(read_model, files, name), route, int(steps))
 
 
+def check_answer(files, name, at):
+    read(read_model, files, name)
+    status, line = check_texts(files[name], files[at], at)
+    if status in (2, 4):
+        raise Told(status, line)
+    return status, line + "\n"
+
+
 class Told(Exception):
-    """A text is refused: the line that names it."""
+    """A text or a rewrite is refused: the status, and the line that is written on error."""
 
 
 def read(reader, files, name):
     try:
         return reader(files[name])
     except Refused as refused:
-        raise Told(f"{name}: line {refused.line}: {refused.cause}") from None
+        raise Told(2, f"{name}: line {refused.line}: {refused.cause}") from None
 
 
 def form_of(words):
@@ -47,6 +56,8 @@ def form_of(words):
         return format_model, [], words[1:]
     if len(words) == 3 and words[0] == "test":
         return test_point, [], words[1:]
+    if len(words) == 3 and words[0] == "check":
+        return check_answer, [], words[1:]
     if len(words) == 3 and words[0] == "compile" and words[1] in CHOICES:
         return compile_model, [words[1]], words[2:]
     if len(words) == 4 and words[0] == "solve" and words[1] in ROUTES and is_steps(words[2]):
@@ -71,6 +82,7 @@ def answer(words, files):
         status, text = call(files, *plain, *names)
         return status, text.encode(), b""
     except Told as told:
-        return 2, b"", f"{told}\n".encode()
+        status, line = told.args
+        return status, b"", f"{line}\n".encode()
     except Refusal as refusal:
         return 4, b"", f"{refusal}\n".encode()

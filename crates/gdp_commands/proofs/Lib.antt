@@ -8,7 +8,10 @@ mod OneAnswer
 mod OneRead
 mod Opened
 mod Programs
+mod ReadOnce
+mod SolveLaws
 mod Solving
 mod Spelled
 mod Testing
 mod Unread
+mod Valid

@@ -11,7 +11,7 @@ use Rattle.lp_rows.specs.Holding.{ids_below}
 use Rattle.lp_rows.specs.Rows.{RowValue, ascends_from, has_zero, are_storable, is_storable}
 use Rattle.milps.specs.declared.builder.MilpError.{MilpError}
 use Rattle.milps.specs.declared.builder.MilpError.TheVariants.{TooBig, Coefficient}
-use Rattle.milps.specs.Building.{IsMeasured, width, width_of, height, height_of, bounds_of, refusal_of_col, refusal_of_row, refusal_of_goal, are_kept, is_row_kept, are_summable}
+use Rattle.milps.specs.Building.{IsMeasured, width, width_of, height, height_of, bounds_of, refusal_of_col, refusal_of_row, refusal_of_goal, are_kept, is_row_kept, are_summable, IsWithin}
 use Rattle.milps.specs.Milps.{MilpValue, new_milp, gathered, without_zeros, normal_terms, normal_row}
 use Rattle.milps.proofs.Kept.{normal_kept, row_kept}
 use Rattle.milps.proofs.Measured.{col_measured, row_measured, goal_measured}
@@ -152,15 +152,26 @@ rows_stored n (r ∷ rs) h =
 some_of : (n : ℕ) → (n == 0) ≡ false → 0 < n
 some_of n h = grind (arith, nat_tests)
 
+listed_kept : (m : ModelTree) (hulled : Disjuncts → Bool) → IsSound m → (rewritten m hulled).halt ≡ None → Measured (listed_milp m hulled)
+listed_kept m hulled sound none =
+    let milp : MilpValue = listed_milp m hulled in
+    let is : List Item = listed_rewrite m hulled in
+    let ok : emitted_by m hulled ≡ Ok milp = ap (λ (o : Option Halt). refused_or o milp) none in
+    let start : State = record { milp = new_milp; halt = None } in
+    finished_measured (rewritten m hulled).halt m.goal.sense (goal_terms m.goal (after 0 (tree_items m hulled))) (rewritten m hulled).milp milp
+    (finished_is m hulled sound ∙ ok) (run_measured is start new_measured)
+
+-- the listed program is within the limits
+pub listed_within : (m : ModelTree) (hulled : Disjuncts → Bool) → IsSound m → (rewritten m hulled).halt ≡ None → IsWithin (listed_milp m hulled)
+listed_within m hulled sound none =
+    let k = listed_kept m hulled sound none in record { few_cols = k.few_cols; few_rows = k.few_rows; rows = k.rows; goal = k.goal }
+
 pub listed_is_milp : (m : ModelTree) (hulled : Disjuncts → Bool) → IsSound m → (rewritten m hulled).halt ≡ None → IsMilp (listed_milp m hulled)
 listed_is_milp m hulled sound none =
     let milp : MilpValue = listed_milp m hulled in
     let is : List Item = listed_rewrite m hulled in
     let ok : emitted_by m hulled ≡ Ok milp = ap (λ (o : Option Halt). refused_or o milp) none in
-    let start : State = record { milp = new_milp; halt = None } in
-    let kept : Measured milp =
-    finished_measured (rewritten m hulled).halt m.goal.sense (goal_terms m.goal (after 0 (tree_items m hulled))) (rewritten m hulled).milp milp
-    (finished_is m hulled sound ∙ ok) (run_measured is start new_measured) in
+    let kept : Measured milp = listed_kept m hulled sound none in
     let long : length m.vars + length m.booleans ≤ length milp.cols = emitted_long m hulled (Ok milp) (inl (sym ok)) in
     record {
       some = omega (arith, long, some_of (length m.vars) sound.some_variable);

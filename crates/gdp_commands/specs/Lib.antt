@@ -7,6 +7,7 @@ pub mod Format
 pub mod Messages
 pub mod Replies
 pub mod Solve
+pub mod SolveLaws
 pub mod Statuses
 pub mod Streams
 pub mod Table

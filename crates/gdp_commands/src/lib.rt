@@ -6,7 +6,8 @@
 //! rose.
 //!
 //! Read `specs/Words.antt` and `specs/Table.antt`, a table for each command (`Test`, `Format`, `Compile`, `Solve`, `Check`),
-//! then `commands.rt`, `streams.rt`, `fetched.rt`, `replies.rt`, and a file for each command.
+//! then `commands.rt`, `streams.rt`, `fetched.rt`, `replies.rt`, and a file for each command; `specs/CompileLaws.antt` and
+//! `specs/SolveLaws.antt` say what the tables mean.
 #![tactic(auto)]
 
 mod check_command;
@@ -18,6 +19,7 @@ mod format_command;
 mod messages;
 mod replies;
 mod solve_command;
+pub mod solve_laws;
 mod status;
 mod streams;
 mod test_command;
