@@ -10,12 +10,12 @@ use Rattle.gdp_commands.specs.declared.status.Status.TheVariants.{Text}
 use Rattle.gdp_commands.specs.Check.{AnswerSays}
 use Rattle.gdp_commands.specs.Messages.{too_long}
 use Rattle.gdp_commands.specs.Table.{Answer, FirstIf}
-use Rattle.gdp_commands.specs.Texts.{IsLong, ModelSays}
+use Rattle.gdp_commands.specs.Texts.{IsLonger, ModelSays}
 
 -- a text that is not too long
-pub within : (name text : List ℕ) (below : Answer) (s : Status) (written : List ℕ) → s ≢ Text → FirstIf (IsLong text) Text (too_long name) below s written → (¬ IsLong text) × below s written
-within name text below s written other (inl long) = absurd (other long.1.0)
-within name text below s written other (inr short) = short
+pub within : (limit : ℕ) (name text : List ℕ) (below : Answer) (s : Status) (written : List ℕ) → s ≢ Text → FirstIf (IsLonger limit text) Text (too_long name) below s written → (¬ IsLonger limit text) × below s written
+within limit name text below s written other (inl long) = absurd (other long.1.0)
+within limit name text below s written other (inr short) = short
 
 -- the model that a text spells
 pub of_model : (name text : List ℕ) (below : ModelTree → Answer) (s : Status) (written : List ℕ) → s ≢ Text → ModelSays name text below s written → (m : ModelTree) × Spells text m × below m s written

@@ -38,7 +38,7 @@ use Rattle.gdp_commands.specs.Solve.{ReachedSays, SolveSays}
 use Rattle.gdp_commands.specs.SolveLaws.{ChecksTruly, GivesUpExactly, IsAnsweredAs, IsGivenUpAs, SolvedIsAccepted, SolvesTruly}
 use Rattle.gdp_commands.specs.Messages.{too_long}
 use Rattle.gdp_commands.specs.Table.{Answer, FirstIf, For}
-use Rattle.gdp_commands.specs.Texts.{IsLong, ModelSays}
+use Rattle.gdp_commands.specs.Texts.{IsLong, IsLongAnswer, ModelSays}
 use Rattle.gdp_commands.proofs.ReadOnce.{within, of_model, of_answer}
 use Rattle.gdp_commands.proofs.Spelled.{spelled_is_sound}
 use Rattle.gdp_commands.proofs.Valid.{claim_of_text, valid_is_true}
@@ -73,7 +73,7 @@ solved_of : (route : Route) (steps : ℕ) (model text : List ℕ) (s : Status) (
     → (m : ModelTree) × Spells text m × ((r : Result Reached CompileError) × IsSolution m route steps r × ReachedSays m route r s written)
 solved_of route steps model text s written other says =
     let below : ModelTree → Answer = λ m. For (IsSolution m route steps) (ReachedSays m route) in
-    of_model model text below s written other (within model text (ModelSays model text below) s written other says).1
+    of_model model text below s written other (within 8388608 model text (ModelSays model text below) s written other says).1
 
 pub solves_truly : SolvesTruly
 solves_truly route steps model contents written says =
@@ -115,8 +115,8 @@ checks_truly model answer contents written says =
     let checked : ModelTree → answers.Answer → Answer = λ m a. CheckedSays m (first_error (check_groups m a)) in
     let answered : ModelTree → Answer = λ m. AnswerSays m answer says.2.0 (checked m) in
     let modelled = ModelSays model says.0 answered in
-    let short = within model says.0 (FirstIf (IsLong says.2.0) status.Text (too_long answer) modelled) status.Done written other says.2.2 in
-    let both = within answer says.2.0 modelled status.Done written other short.1 in
+    let short = within 8388608 model says.0 (FirstIf (IsLongAnswer says.2.0) status.Text (too_long answer) modelled) status.Done written other says.2.2 in
+    let both = within 1099511627776 answer says.2.0 modelled status.Done written other short.1 in
     let m = of_model model says.0 answered status.Done written other both.1 in
     let a = of_answer m.0 answer says.2.0 (checked m.0) status.Done written other m.2 in
     let valid = all_pass m.0 (first_error (check_groups m.0 a.0)) written a.2 in
@@ -144,7 +144,7 @@ passing_is m (Err error) s text e says = absurd (cc e)
 not_long : (route : Route) (steps : ℕ) (model model_text written : List ℕ) → SolveSays route steps model model_text status.Done written → ¬ IsLong model_text
 not_long route steps model model_text written says =
     let below : ModelTree → Answer = λ m. For (IsSolution m route steps) (ReachedSays m route) in
-    (within model model_text (ModelSays model model_text below) status.Done written (λ e. cc e) says).0
+    (within 8388608 model model_text (ModelSays model model_text below) status.Done written (λ e. cc e) says).0
 
 pub solved_is_accepted : SolvedIsAccepted
 solved_is_accepted route steps model answer model_text written text s short solved (inl long) =

@@ -10,7 +10,7 @@ use Rattle.gdp_commands.specs.Answers.{Says, SaysFault, FitsBefore, IsReplyTo}
 use Rattle.gdp_commands.specs.Messages.{read_fault, too_long}
 use Rattle.gdp_commands.specs.Replies.{ReadFailed, text_of}
 use Rattle.gdp_commands.specs.Statuses.{IsWorked}
-use Rattle.gdp_commands.specs.Texts.{IsLong, IsLongBehind}
+use Rattle.gdp_commands.specs.Texts.{IsLong, IsLonger, IsLongerBehind}
 use Rattle.gdp_commands.specs.Words.{Form, IsRead}
 use Rattle.gdp_commands.specs.Words.Form.{Test, Format, Compile, Solve, Check}
 use Rattle.gdp_commands.specs.declared.replies.Reply.{Reply}
@@ -51,17 +51,17 @@ if_replied form contents before now error name (Ok reply) if_long if_fault faile
 one_unread : (form : Form) (contents : Contents) (before now : List ℕ → ℕ) (model : List ℕ) (error : ReadAllError) (result : Result Reply Memory) →
     ((text : List ℕ) → IsBehind contents model text → IsLong text → Says form contents status.Text (too_long model)) →
     IsRead form model → FitsBefore form contents model →
-    (error ≡ Error.TooLong → IsLongBehind contents model) → (error ≡ Error.Read → Rose (before model) (now model)) →
+    (error ≡ Error.TooLong → IsLongerBehind 8388608 contents model) → (error ≡ Error.Read → Rose (before model) (now model)) →
     IfOk result (λ reply. ReadFailed error model reply.status (text_of reply)) →
     IfOk result (λ reply. IsReplyTo form contents before now reply.status (text_of reply))
 one_unread form contents before now model error result says reads fits if_long if_rose =
     if_replied form contents before now error model result
-    (λ is. let long = long_text contents model (if_long is) in says long.0 long.1 long.2)
+    (λ is. let long = long_text 8388608 contents model (if_long is) in says long.0 long.1 long.2)
     (λ is. (model, reads, fits, if_rose is, refl))
 
 -- what `format` answers where its text was not read
 pub format_unread : (contents : Contents) (before now : List ℕ → ℕ) (model : List ℕ) (error : ReadAllError) (result : Result Reply Memory) →
-    (error ≡ Error.TooLong → IsLongBehind contents model) → (error ≡ Error.Read → Rose (before model) (now model)) →
+    (error ≡ Error.TooLong → IsLongerBehind 8388608 contents model) → (error ≡ Error.Read → Rose (before model) (now model)) →
     IfOk result (λ reply. ReadFailed error model reply.status (text_of reply)) →
     IfOk result (λ reply. IsReplyTo (Format model) contents before now reply.status (text_of reply))
 format_unread contents before now model error result =
@@ -69,7 +69,7 @@ format_unread contents before now model error result =
 
 -- and `compile`
 pub compile_unread : (choice : Choice) (contents : Contents) (before now : List ℕ → ℕ) (model : List ℕ) (error : ReadAllError) (result : Result Reply Memory) →
-    (error ≡ Error.TooLong → IsLongBehind contents model) → (error ≡ Error.Read → Rose (before model) (now model)) →
+    (error ≡ Error.TooLong → IsLongerBehind 8388608 contents model) → (error ≡ Error.Read → Rose (before model) (now model)) →
     IfOk result (λ reply. ReadFailed error model reply.status (text_of reply)) →
     IfOk result (λ reply. IsReplyTo (Compile choice model) contents before now reply.status (text_of reply))
 compile_unread choice contents before now model error result =
@@ -77,7 +77,7 @@ compile_unread choice contents before now model error result =
 
 -- and `solve`
 pub solve_unread : (route : Route) (steps : ℕ) (contents : Contents) (before now : List ℕ → ℕ) (model : List ℕ) (error : ReadAllError) (result : Result Reply Memory) →
-    (error ≡ Error.TooLong → IsLongBehind contents model) → (error ≡ Error.Read → Rose (before model) (now model)) →
+    (error ≡ Error.TooLong → IsLongerBehind 8388608 contents model) → (error ≡ Error.Read → Rose (before model) (now model)) →
     IfOk result (λ reply. ReadFailed error model reply.status (text_of reply)) →
     IfOk result (λ reply. IsReplyTo (Solve route steps model) contents before now reply.status (text_of reply))
 solve_unread route steps contents before now model error result =
@@ -87,30 +87,30 @@ solve_unread route steps contents before now model error result =
 first_unread : (form : Form) (contents : Contents) (before now : List ℕ → ℕ) (model other : List ℕ) (error : ReadAllError) (result : Result Reply Memory) →
     ((one two : List ℕ) → IsBehind contents model one → IsBehind contents other two → IsLong one → Says form contents status.Text (too_long model)) →
     IsRead form model → FitsBefore form contents model →
-    (error ≡ Error.TooLong → IsLongBehind contents model) → (error ≡ Error.Read → Rose (before model) (now model)) →
+    (error ≡ Error.TooLong → IsLongerBehind 8388608 contents model) → (error ≡ Error.Read → Rose (before model) (now model)) →
     IfOk result (λ reply. ReadFailed error model reply.status (text_of reply)) →
     IfOk result (λ reply. IsReplyTo form contents before now reply.status (text_of reply))
 first_unread form contents before now model other error result says reads fits if_long if_rose =
     if_replied form contents before now error model result
-    (λ is. let long = long_text contents model (if_long is) in let two = some_text contents other in says long.0 two.0 long.1 two.1 long.2)
+    (λ is. let long = long_text 8388608 contents model (if_long is) in let two = some_text contents other in says long.0 two.0 long.1 two.1 long.2)
     (λ is. (model, reads, fits, if_rose is, refl))
 
 -- and where the first was read, and the second was not
-second_unread : (form : Form) (contents between : Contents) (before now : List ℕ → ℕ) (model other model_text : List ℕ) (error : ReadAllError) (result : Result Reply Memory) →
-    ((two : List ℕ) → IsBehind contents other two → IsLong two → Says form contents status.Text (too_long other)) →
+second_unread : (limit : ℕ) (form : Form) (contents between : Contents) (before now : List ℕ → ℕ) (model other model_text : List ℕ) (error : ReadAllError) (result : Result Reply Memory) →
+    ((two : List ℕ) → IsBehind contents other two → IsLonger limit two → Says form contents status.Text (too_long other)) →
     IsRead form other → (((all : List ℕ) → contents model ≡ Some all → ¬ IsLong all) → FitsBefore form contents other) →
     SameContents contents between → IsBehind contents model model_text → ¬ IsLong model_text →
-    (error ≡ Error.TooLong → IsLongBehind between other) → (error ≡ Error.Read → Rose (before other) (now other)) →
+    (error ≡ Error.TooLong → IsLongerBehind limit between other) → (error ≡ Error.Read → Rose (before other) (now other)) →
     IfOk result (λ reply. ReadFailed error other reply.status (text_of reply)) →
     IfOk result (λ reply. IsReplyTo form contents before now reply.status (text_of reply))
-second_unread form contents between before now model other model_text error result says reads fits same is_model short if_long if_rose =
+second_unread limit form contents between before now model other model_text error result says reads fits same is_model short if_long if_rose =
     if_replied form contents before now error other result
-    (λ is. let long = long_text contents other (λ all revealed. if_long is all (same other ∙ revealed)) in says long.0 long.1 long.2)
+    (λ is. let long = long_text limit contents other (λ all revealed. if_long is all (same other ∙ revealed)) in says long.0 long.1 long.2)
     (λ is. (other, reads, fits (λ all revealed long. short (subst IsLong (sym (is_model all revealed)) long)), if_rose is, refl))
 
 -- so `test` answers
 pub model_unread : (contents : Contents) (before now : List ℕ → ℕ) (model point : List ℕ) (error : ReadAllError) (result : Result Reply Memory) →
-    (error ≡ Error.TooLong → IsLongBehind contents model) → (error ≡ Error.Read → Rose (before model) (now model)) →
+    (error ≡ Error.TooLong → IsLongerBehind 8388608 contents model) → (error ≡ Error.Read → Rose (before model) (now model)) →
     IfOk result (λ reply. ReadFailed error model reply.status (text_of reply)) →
     IfOk result (λ reply. IsReplyTo (Test model point) contents before now reply.status (text_of reply))
 model_unread contents before now model point error result =
@@ -118,16 +118,16 @@ model_unread contents before now model point error result =
 
 pub point_unread : (contents between : Contents) (before now : List ℕ → ℕ) (model point model_text : List ℕ) (error : ReadAllError) (result : Result Reply Memory) →
     SameContents contents between → IsBehind contents model model_text → ¬ IsLong model_text →
-    (error ≡ Error.TooLong → IsLongBehind between point) → (error ≡ Error.Read → Rose (before point) (now point)) →
+    (error ≡ Error.TooLong → IsLongerBehind 8388608 between point) → (error ≡ Error.Read → Rose (before point) (now point)) →
     IfOk result (λ reply. ReadFailed error point reply.status (text_of reply)) →
     IfOk result (λ reply. IsReplyTo (Test model point) contents before now reply.status (text_of reply))
 point_unread contents between before now model point model_text error result same is_model short =
-    second_unread (Test model point) contents between before now model point model_text error result
+    second_unread 8388608 (Test model point) contents between before now model point model_text error result
     (λ two b long. (model_text, is_model, (two, b, inr (short, inl (long, (refl, refl)))))) (inr refl) (λ fits. inr fits) same is_model short
 
 -- and so `check`
 pub checked_unread : (contents : Contents) (before now : List ℕ → ℕ) (model answer : List ℕ) (error : ReadAllError) (result : Result Reply Memory) →
-    (error ≡ Error.TooLong → IsLongBehind contents model) → (error ≡ Error.Read → Rose (before model) (now model)) →
+    (error ≡ Error.TooLong → IsLongerBehind 8388608 contents model) → (error ≡ Error.Read → Rose (before model) (now model)) →
     IfOk result (λ reply. ReadFailed error model reply.status (text_of reply)) →
     IfOk result (λ reply. IsReplyTo (Check model answer) contents before now reply.status (text_of reply))
 checked_unread contents before now model answer error result =
@@ -135,11 +135,11 @@ checked_unread contents before now model answer error result =
 
 pub answer_unread : (contents between : Contents) (before now : List ℕ → ℕ) (model answer model_text : List ℕ) (error : ReadAllError) (result : Result Reply Memory) →
     SameContents contents between → IsBehind contents model model_text → ¬ IsLong model_text →
-    (error ≡ Error.TooLong → IsLongBehind between answer) → (error ≡ Error.Read → Rose (before answer) (now answer)) →
+    (error ≡ Error.TooLong → IsLongerBehind 1099511627776 between answer) → (error ≡ Error.Read → Rose (before answer) (now answer)) →
     IfOk result (λ reply. ReadFailed error answer reply.status (text_of reply)) →
     IfOk result (λ reply. IsReplyTo (Check model answer) contents before now reply.status (text_of reply))
 answer_unread contents between before now model answer model_text error result same is_model short =
-    second_unread (Check model answer) contents between before now model answer model_text error result
+    second_unread 1099511627776 (Check model answer) contents between before now model answer model_text error result
     (λ two b long. (model_text, is_model, (two, b, inr (short, inl (long, (refl, refl)))))) (inr refl) (λ fits. inr fits) same is_model short
 
 -- a count that rose after another call rose

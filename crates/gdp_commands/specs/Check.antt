@@ -17,7 +17,7 @@ use Rattle.gdp_commands.specs.declared.status.Status.TheVariants as status
 use Rattle.gdp_commands.specs.Compile.{RefusedSays}
 use Rattle.gdp_commands.specs.Messages.{line, too_long}
 use Rattle.gdp_commands.specs.Table.{Answer, FirstIf, Is, Parsed}
-use Rattle.gdp_commands.specs.Texts.{IsLong, ModelSays}
+use Rattle.gdp_commands.specs.Texts.{IsLong, IsLongAnswer, ModelSays}
 
 -- the name of a cause
 abbrev pub spoilt_name : CertCause → List ℕ
@@ -71,7 +71,7 @@ AnswerSays m name text below = Parsed (IsFirstBadOfAnswer (var_names m) (boolean
 abbrev pub CheckSays : (model answer model_text answer_text : List ℕ) → Answer
 CheckSays model answer model_text answer_text =
     FirstIf (IsLong model_text) status.Text (too_long model) (
-    FirstIf (IsLong answer_text) status.Text (too_long answer) (
+    FirstIf (IsLongAnswer answer_text) status.Text (too_long answer) (
     ModelSays model model_text (λ m.
     AnswerSays m answer answer_text (λ a.
     CheckedSays m (first_error (check_groups m a))))))

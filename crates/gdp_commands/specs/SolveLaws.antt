@@ -21,7 +21,7 @@ use Rattle.gdp_commands.specs.Answers.{Says}
 use Rattle.gdp_commands.specs.Check.{CheckSays}
 use Rattle.gdp_commands.specs.CompileLaws.{SpellsBehind}
 use Rattle.gdp_commands.specs.Solve.{SolveSays}
-use Rattle.gdp_commands.specs.Texts.{IsLong}
+use Rattle.gdp_commands.specs.Texts.{IsLongAnswer}
 use Rattle.gdp_commands.specs.Words.Form.{Solve, Check}
 
 -- the text is that of a claim by this route, which is true of the model and which the checker accepts
@@ -67,8 +67,8 @@ ChecksTruly =
     (model answer : List ℕ) (contents : Contents) (written : List ℕ) →
     Says (Check model answer) contents status.Done written → SpellsBehind contents model (λ m. IsTrueBehind contents answer m)
 
--- What `solve` writes with status 0, `check` of that model accepts, where the text is within the limit on a text.
+-- What `solve` writes with status 0, `check` of that model accepts, where its text is within the limit on the text of an answer.
 abbrev pub SolvedIsAccepted : Type 0
 SolvedIsAccepted =
-    (route : Route) (steps : ℕ) (model answer model_text written text : List ℕ) (s : Status) → ¬ IsLong written →
+    (route : Route) (steps : ℕ) (model answer model_text written text : List ℕ) (s : Status) → ¬ IsLongAnswer written →
     SolveSays route steps model model_text status.Done written → CheckSays model answer model_text written s text → s ≡ status.Done

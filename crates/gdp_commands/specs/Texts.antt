@@ -9,13 +9,21 @@ use Rattle.gdp_commands.specs.declared.status.Status.TheVariants.{Text}
 use Rattle.gdp_commands.specs.Messages.{refused_at}
 use Rattle.gdp_commands.specs.Table.{Answer, Parsed}
 
--- the text passes the limit on a text
-abbrev pub IsLong : List ℕ → Type 0
-IsLong text = 8388608 < length text
+-- the text has more bytes than this
+abbrev pub IsLonger : ℕ → List ℕ → Type 0
+IsLonger limit text = limit < length text
 
--- where the contents behind the name are revealed, they pass the limit on a text
-abbrev pub IsLongBehind : Contents → List ℕ → Type 0
-IsLongBehind contents name = (all : List ℕ) → contents name ≡ Some all → IsLong all
+-- the text passes the limit on the text of a model or a point
+abbrev pub IsLong : List ℕ → Type 0
+IsLong text = IsLonger 8388608 text
+
+-- the text passes the limit on the text of an answer
+abbrev pub IsLongAnswer : List ℕ → Type 0
+IsLongAnswer text = IsLonger 1099511627776 text
+
+-- where the contents behind the name are revealed, they have more bytes than this
+abbrev pub IsLongerBehind : ℕ → Contents → List ℕ → Type 0
+IsLongerBehind limit contents name = (all : List ℕ) → contents name ≡ Some all → IsLonger limit all
 
 -- what the text of a model answers: its first bad line, or else as below for the model that it spells
 abbrev pub ModelSays : (name text : List ℕ) → (ModelTree → Answer) → Answer

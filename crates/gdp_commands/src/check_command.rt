@@ -12,11 +12,11 @@ ghost use Rattle.gdp_commands.specs.Messages.{line};
 ghost use Rattle.gdp_commands.specs.Replies.{text_of};
 ghost use Rattle.gdp_commands.specs.Statuses.{IsWorked};
 ghost use Rattle.gdp_commands.specs.Table.{IsOne};
-ghost use Rattle.gdp_commands.specs.Texts.{IsLong};
+ghost use Rattle.gdp_commands.specs.Texts.{IsLong, IsLongAnswer};
 ghost use Rattle.gdp_commands.specs.Words.Form.{Check};
 
 use crate::compile_command::refuse;
-use crate::fetched::{Fetched, fetch};
+use crate::fetched::{Fetched, fetch, fetch_answer};
 use crate::messages::make_line;
 use crate::replies::{Reply, read_failed, refuse_at};
 use crate::status::Status;
@@ -48,7 +48,7 @@ pub fn check_command<S: Shelf>(
         Ok(text) => text,
         Err(error) => return read_failed(alloc, error, model),
     };
-    let second = fetch(alloc, shelf, answer);
+    let second = fetch_answer(alloc, shelf, answer);
     let answer_text = match second {
         Ok(text) => text,
         Err(error) => return read_failed(alloc, error, answer),
@@ -62,10 +62,10 @@ fn check_texts(
     model: &str,
     answer: &str,
     model_text: &Fetched,
-    answer_text: &Fetched,
+    answer_text: &Text,
 ) -> Result<Reply, Memory>
     requires model_within { ¬ IsLong model_text.now }
-    requires answer_within { ¬ IsLong answer_text.now }
+    requires answer_within { ¬ IsLongAnswer answer_text.now }
     ensures worked { IfOk result (λ reply. IsWorked reply.status) }
     ensures says { IfOk result (λ reply. CheckSays model.now answer.now model_text.now answer_text.now reply.status (text_of reply)) }
 {
@@ -81,7 +81,7 @@ fn check_text(
     alloc: Global,
     model: &Model,
     answer: &str,
-    answer_text: &Fetched,
+    answer_text: &Text,
 ) -> Result<Reply, Memory>
     ensures worked { IfOk result (λ reply. IsWorked reply.status) }
     ensures says { IfOk result (λ reply. AnswerSays (model_tree model.now) answer.now answer_text.now (λ a. CheckedSays (model_tree model.now) (first_error (check_groups (model_tree model.now) a))) reply.status (text_of reply)) }

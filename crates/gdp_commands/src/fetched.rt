@@ -5,7 +5,7 @@ ghost use Rattle.gdp_io.specs.Causes.{Rose, NoneFell};
 ghost use Rattle.gdp_io.specs.Shelf.{SameContents, IsBehind, OpensOne, OpensFirst};
 ghost use Rattle.gdp_reader.specs.Taking.{IsRefused};
 ghost use Rattle.model_tree.specs.Values.{model_tree};
-ghost use Rattle.gdp_commands.specs.Texts.{IsLong, IsLongBehind};
+ghost use Rattle.gdp_commands.specs.Texts.{IsLong, IsLongAnswer, IsLongerBehind};
 
 use gdp_io::{ReadAllError, Shelf, Text, read_all};
 use gdp_reader::{ReadError, read_model};
@@ -13,8 +13,11 @@ use model_tree::Model;
 use std::alloc::Global;
 use std::marker;
 
-/// The limit on a text, in bytes.
+/// The limit on the text of a model or a point, in bytes.
 const LIMIT: u64 = 8_388_608;
+
+/// The limit on the text of an answer, in bytes.
+const ANSWER_LIMIT: u64 = 1_099_511_627_776;
 
 /// A text that was read whole and is within the limit.
 #[derive(Debug, Drop)]
@@ -55,7 +58,7 @@ impl Fetched {
 pub fn fetch<S: Shelf>(alloc: Global, shelf: &mut S, name: &str) -> Result<Fetched, ReadAllError>
     ensures text { IfOk result (λ text. IsBehind (S.contents shelf.old) name.now text) }
     ensures within { IfOk result (λ text. ¬ IsLong text) }
-    ensures too_long { IsErrOf result ReadAllError.TooLong → IsLongBehind (S.contents shelf.old) name.now }
+    ensures too_long { IsErrOf result ReadAllError.TooLong → IsLongerBehind 8388608 (S.contents shelf.old) name.now }
     ensures read { IsErrOf result ReadAllError.Read → Rose (S.faults shelf.old name.now) (S.faults shelf.new name.now) }
     ensures contents { SameContents (S.contents shelf.old) (S.contents shelf.new) }
     ensures later { NoneFell (S.faults shelf.old) (S.faults shelf.new) }
@@ -66,4 +69,22 @@ pub fn fetch<S: Shelf>(alloc: Global, shelf: &mut S, name: &str) -> Result<Fetch
         Ok(text) => Ok(Fetched { text }),
         Err(error) => Err(error),
     }
+}
+
+/// Reads the text of an answer behind a name whole, up to its limit. The name is opened once, and no other.
+pub fn fetch_answer<S: Shelf>(
+    alloc: Global,
+    shelf: &mut S,
+    name: &str,
+) -> Result<Text, ReadAllError>
+    ensures text { IfOk result (λ text. IsBehind (S.contents shelf.old) name.now text) }
+    ensures within { IfOk result (λ text. ¬ IsLongAnswer text) }
+    ensures too_long { IsErrOf result ReadAllError.TooLong → IsLongerBehind 1099511627776 (S.contents shelf.old) name.now }
+    ensures read { IsErrOf result ReadAllError.Read → Rose (S.faults shelf.old name.now) (S.faults shelf.new name.now) }
+    ensures contents { SameContents (S.contents shelf.old) (S.contents shelf.new) }
+    ensures later { NoneFell (S.faults shelf.old) (S.faults shelf.new) }
+    ensures opened { OnOk result (OpensOne (S.is_opened shelf.old) (S.is_opened shelf.new) name.now) }
+    ensures tried { OnErr result (OpensFirst (S.is_opened shelf.old) (S.is_opened shelf.new) (name.now ∷ [])) }
+{
+    read_all(alloc, shelf, name, ANSWER_LIMIT)
 }

@@ -13,7 +13,7 @@ returns-in-Err-clause-opens g c = first_of_two _ (g.S.Shelf.is_opened c.fetch-fi
 
 pub returns-in-Err-second-clause-replies : goal.returns-in-Err-second-clause-replies
 returns-in-Err-second-clause-replies g c =
-    answer_unread _ _ (g.S.Shelf.faults c.args.shelf.now) (g.S.Shelf.faults c.fetch-second.new.shelf) _ _ _ c.in-Err-second.error
+    answer_unread _ _ (g.S.Shelf.faults c.args.shelf.now) (g.S.Shelf.faults c.fetch_answer-second.new.shelf) _ _ _ c.in-Err-second.error
     c.read_failed-in-Err-second.result c.fetch-first.ensures.contents c.in-Ok.ensures.text c.in-Ok.ensures.within
     (λ is. c.in-Err-second.ensures.too_long (cc))
     (λ is. risen (g.S.Shelf.faults c.args.shelf.now c.args.answer.now) (g.S.Shelf.faults c.fetch-first.new.shelf c.args.answer.now) _
@@ -22,15 +22,15 @@ returns-in-Err-second-clause-replies g c =
 
 pub returns-in-Err-second-clause-opens : goal.returns-in-Err-second-clause-opens
 returns-in-Err-second-clause-opens g c =
-    both_in_order _ (g.S.Shelf.is_opened c.fetch-first.new.shelf) (g.S.Shelf.is_opened c.fetch-second.new.shelf) _ _
+    both_in_order _ (g.S.Shelf.is_opened c.fetch-first.new.shelf) (g.S.Shelf.is_opened c.fetch_answer-second.new.shelf) _ _
     c.in-Ok.ensures.opened c.in-Err-second.ensures.tried
 
 pub returns-clause-replies : goal.returns-clause-replies
 returns-clause-replies g c =
-    check_read _ _ (g.S.Shelf.faults c.args.shelf.now) (g.S.Shelf.faults c.fetch-second.new.shelf) _ _ _ _ c.check_texts.result
+    check_read _ _ (g.S.Shelf.faults c.args.shelf.now) (g.S.Shelf.faults c.fetch_answer-second.new.shelf) _ _ _ _ c.check_texts.result
     c.fetch-first.ensures.contents c.in-Ok.ensures.text c.in-Ok-second.ensures.text c.check_texts.ensures.worked c.check_texts.ensures.says
 
 pub returns-clause-opens : goal.returns-clause-opens
 returns-clause-opens g c =
-    both_opened _ (g.S.Shelf.is_opened c.fetch-first.new.shelf) (g.S.Shelf.is_opened c.fetch-second.new.shelf) _ _
+    both_opened _ (g.S.Shelf.is_opened c.fetch-first.new.shelf) (g.S.Shelf.is_opened c.fetch_answer-second.new.shelf) _ _
     c.in-Ok.ensures.opened c.in-Ok-second.ensures.opened
