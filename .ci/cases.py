@@ -678,6 +678,7 @@ def streams():
 def examples(root):
     """Each example with its points, read where it stands, and its canonical text; the README of the examples says the lines."""
     said = {"blend": 11, "courier": 11, "power": 13, "delivery": 16, "tank": 8, "process_route": 20, "transport": 34, "schedule": 9, "site_selection": 58, "plant_units": 33}
+    said |= {"creamery": 20, "job_shop": 23, "strip_packing": 63, "process_network": 50, "batches": 50, "pipes": 31, "stations": 58}
     folder = root / "examples"
     rows = []
     for path in sorted(folder.glob("*.gdp")):

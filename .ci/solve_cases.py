@@ -3,6 +3,7 @@
 import concurrent.futures
 import random
 import re
+from fractions import Fraction
 
 import certificate_cases
 from case import CLOSED, FULL, GONE, MODEL, Case
@@ -313,26 +314,41 @@ def examples(root):
 
 
 def stepped(root):
-    """Each example with the steps that the examples' README says are needed, and, where these are few, with one less."""
-    jobs = []
-    for name, best, *counts in re.findall(r"^\| `(\w+\.gdp)` \| (\S+) \| (\d*) \| (\d*) \| (\d*) \|$", (root / "examples" / "README.md").read_text(), re.MULTILINE):
-        for route, count in zip(("logic", "hybrid", "bigm"), counts):
+    """Each example with the steps that the examples' README says are needed, and, where these are few, with one less.
+
+    The answers are checked, and the best values are those that trying every setting gives.
+    """
+    jobs, optima = [], {}
+    page = (root / "examples" / "README.md").read_text()
+    for name, best, *counts in re.findall(r"^\| `(\w+\.gdp)` \| (\S+)" + r" \| (\d*)" * 4 + r" \|$", page, re.MULTILINE):
+        optima[str(root / "examples" / name)] = ("best", Fraction(best))
+        for route, count in zip(("logic", "hybrid", "hull", "bigm"), counts):
             words = ["solve", route, count, str(root / "examples" / name)]
             jobs += [(words, (0, "best " + best))] if count else []
             jobs += [([*words[:2], str(int(count) - 1), words[3]], (3, "stop steps"))] if count and int(count) < 100 else []
-    assert len({words[3] for words, _ in jobs}) == len(list((root / "examples").glob("*.gdp"))), "an example without its steps"
+    assert len(optima) == len(list((root / "examples").glob("*.gdp"))), "an example without its steps"
     with concurrent.futures.ProcessPoolExecutor() as pool:
+        found = pool.map(example_optimum, optima)
         told = list(pool.map(example_answer, [words for words, _ in jobs]))
+        assert list(found) == list(optima.values()), "an example has another optimum"
     rows = []
     for (words, (wanted, line)), (status, text, err) in zip(jobs, told):
         assert status == wanted and line in text.decode().splitlines(), f"{words}: {status}, {text}"
-        rows.append(Case(f"example: {words[3].rsplit('/', 1)[1]}, {words[1]} {words[2]}", words, {}, status, text, err))
+        name = f"example: {words[3].rsplit('/', 1)[1]}, {words[1]} {words[2]}"
+        rows.append(Case(name, words, {}, status, text, err))
+        if status == 0:
+            rows.append(Case(f"{name}, checked", ["check", words[3], "A"], {"A": text}, 0, b"accepted\n"))
     return rows
 
 
 def example_answer(words):
     with open(words[3], "rb") as file:
         return answer([*words[:3], "M"], {"M": file.read()})
+
+
+def example_optimum(name):
+    with open(name, "rb") as file:
+        return optimum(read_model(file.read()))
 
 
 def solve_rows():
