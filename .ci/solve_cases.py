@@ -1,6 +1,8 @@
 """Rows of the end-to-end table on `solve` and `check`: answers written by hand, models drawn by chance, and spoilt answers."""
 
+import collections
 import concurrent.futures
+import itertools
 import random
 import re
 from fractions import Fraction
@@ -195,7 +197,7 @@ def commands():
         Case("check: a bad model before a bad answer", check, {"M": SMALL + b"end\n", "A": b""}, 2, err=b"M: line 5: Form\n"),
         Case("check: a model that is too long, and no answer", check, {"M": long}, 2, err=b"M: too long\n", is_long=True),
         Case("check: a point in place of an answer", check, {"M": SMALL, "A": b"gdp-point 1\nover 1\nval n 3\nend\n"}, 2, err=b"A: line 1: Form\n"),
-        Case("check: a million openings", check, {"M": TWO, "A": deep}, 2, err=b"A: line 1000005: Shape\n", is_long=True),
+        Case("check: a million openings", check, {"M": PLAN, "A": deep}, 2, err=b"A: line 1000005: Shape\n", is_long=True),
         Case("solve: a model named like a route", ["solve", "logic", "7", "bigm"], {"bigm": SMALL}, 0, ANSWER.replace(b"bigm", b"logic")),
         Case("solve: from standard input", ["solve", "bigm", "7", "/dev/stdin"], {}, 0, ANSWER, stdin=[SMALL[:9], SMALL[9:]]),
         Case("check: from standard input", ["check", "M", "/dev/stdin"], files, 0, b"accepted\n", stdin=[ANSWER[:30], ANSWER[30:]]),
@@ -240,22 +242,24 @@ def reckoned(model):
     return told
 
 
-def changed(text, draw):
-    """An answer's text with one thing changed."""
+def changed(text, kind, draw):
+    """An answer's text with one thing changed, or None where nothing of this kind is in it."""
     lines = text.decode().splitlines(keepends=True)
-    kind = draw.choice(["number", "number", "number", "move", "double", "drop", "swap", "split", "pair", "route"])
     at = draw.randrange(1, len(lines))
     leaves = [i for i, line in enumerate(lines) if line.startswith(("bounded", "refuted", "logic"))]
     splits = [i for i, line in enumerate(lines) if line.startswith(("int", "truth"))]
-    if kind == "swap" and len(leaves) > 1:
-        first, second = draw.sample(leaves, 2)
+    paired = [i for i in leaves if ":" in lines[i]]
+    if not {"swap": len({lines[i] for i in leaves}) > 1, "split": splits, "pair": paired}.get(kind, True):
+        return None
+    if kind == "swap":
+        first, second = draw.choice([(i, j) for i in leaves for j in leaves if lines[i] != lines[j]])
         lines[first], lines[second] = lines[second], lines[first]
-    elif kind == "split" and splits:
+    elif kind == "split":
         at = draw.choice(splits)
         *before, last = lines[at].split()
         lines[at] = " ".join([*before, str(int(last) + draw.choice([-1, 1]))]) + "\n"
-    elif kind == "pair" and leaves:
-        at = draw.choice(leaves)
+    elif kind == "pair":
+        at = draw.choice(paired)
         word, *rest = lines[at].split()
         rest.pop(draw.randrange(len(rest)))
         lines[at] = " ".join([word, *rest]) + "\n"
@@ -277,8 +281,9 @@ def changed(text, draw):
 
 
 def drawn():
-    """Models drawn by chance by each route, what is said of each answer, and of one that was spoilt."""
+    """Models drawn by chance by each route, what is said of each answer, and of it spoilt in some of the ways, each over a hundred times."""
     models, rows, draw = list(drawn_models(DRAWN)), [], random.Random(13)
+    anywhere, counts = itertools.cycle(("number", "move", "double", "drop", "number", "pair", "route")), collections.Counter()
     with concurrent.futures.ProcessPoolExecutor() as pool:
         told = list(pool.map(reckoned, models, chunksize=4))
     for at, (model, by_route) in enumerate(zip(models, told)):
@@ -286,13 +291,16 @@ def drawn():
             rows.append(solved(f"drawn {at}", route, STEPS, model, status, text, err, is_long=True))
             if status:
                 continue
+            reckoned_line = answer(["check", "M", "A"], {"M": model, "A": text})
+            assert reckoned_line == (0, b"accepted\n", b""), f"drawn {at}, {route}: {reckoned_line}"
             rows.append(checked(f"drawn {at}, {route}", model, text, "accepted", is_long=True))
-            spoilt = changed(text, draw)
-            for name, contents in (("drawn", text), ("spoilt", spoilt)):
-                files = {"M": model, "A": contents}
-                reckoned_line = answer(["check", "M", "A"], files)
-                assert name == "spoilt" or reckoned_line == (0, b"accepted\n", b""), f"drawn {at}, {route}: {reckoned_line}"
-            rows.append(Case(f"check: spoilt {at}, {route}", ["check", "M", "A"], files, *reckoned_line, is_long=True))
+            for kind in (next(anywhere), next(anywhere), "swap", "split"):
+                spoilt = changed(text, kind, draw)
+                if spoilt not in (None, text):
+                    counts[kind] += 1
+                    files = {"M": model, "A": spoilt}
+                    rows.append(Case(f"check: {kind} {at}, {route}", ["check", "M", "A"], files, *answer(["check", "M", "A"], files), is_long=True))
+    assert len(counts) == 8 and min(counts.values()) > 100, f"spoilt answers: {counts}"
     return rows
 
 

@@ -1,583 +1,493 @@
 #!/usr/bin/env python3
 """Checks the answer to a model, whoever wrote it: `check_certificate.py MODEL ANSWER`.
 
-One plain file that shares no code with the program, nor with anything else here. It reads a model text and an answer text, and says
-`accepted` (status 0), or `rejected: ` and why (1), at which line a text is bad (2), where numbers leave 128 bits (3), or why the model
-can't be rewritten for the answer's route (4). What it accepts is true: the point satisfies the model and has the value, and the nodes
-show that none is better: each leaf adds up rows that hold there, times numbers that aren't negative, to a row that no point satisfies,
-or that bounds the objective; and the two halves of a node leave no point out.
+One plain file that shares no code with the program, nor with anything else here. It reads a model text and an answer
+text, and says `accepted` (status 0), or `rejected: ` and why (1), at which line a text is bad (2), where a number
+leaves 128 bits (3), or why the model can't be rewritten for the answer's route (4). What it accepts is true: the point
+satisfies the model and has the value, and the nodes show that none is better: each leaf adds up rows that hold there,
+times numbers that aren't negative, to a row that no point satisfies, or that bounds the objective; and the halves of a
+node leave no point out.
 """
 
 import pathlib
 import re
 import sys
+from collections import namedtuple
 from fractions import Fraction
-from math import ceil, floor, gcd, lcm
+from math import ceil, floor, lcm
 
-MOST, TOP = 10**15, 2**127 - 1
+MOST, TOP, TOP_ID, NO_BOUND = 10**15, 2**127 - 1, 2**32 - 1, 10**100
+Var = namedtuple("Var", "name is_int low high bounds mark")
+Row = namedtuple("Row", "terms relation right mark")
+Block = namedtuple("Block", "indicator mark rows propositions disjunctions")
+Disjunction = namedtuple("Disjunction", "mode mark disjuncts")
+Connective = namedtuple("Connective", "word count parts")
+
+# What texts are made of. The tokens of a model's line are matched with single blanks between them.
+ARITY = {"not": 1, "implies": 2, "equivalent": 2, "xor": 2, "and": 0, "or": 0, "exactly": 0, "atleast": 0, "atmost": 0}
+TOKEN = re.compile(r"[ \t]*(?:([A-Za-z_][A-Za-z0-9_.]*|[0-9]+(?:[./][0-9]+)?|<=|>=|[-+=(),])|(.))", re.DOTALL)
+NUMBER, SIGNED = r"\d+(?:[./]\d+)?", r"(?:[-+] )?\d+(?:[./]\d+)?"
+NAME = rf"(?!(?:{'|'.join(ARITY)}|inf|end)(?: |$))[A-Za-z_][\w.]*"
+SUM = rf"(?:[-+] )?(?:{NUMBER} )?{NAME}(?: [-+] (?:{NUMBER} )?{NAME})*"
+WORD, WHOLE, PLACE, PAIRS = "([^ ]+)", "(0|-?[1-9][0-9]*)", "(0|[1-9][0-9]*)", "((?: (?:0|[1-9][0-9]*):-?[1-9][0-9]*)*)"
 
 
 class Verdict(Exception):
-    """The status and the line that ends the run."""
+    """The line that ends the run, and the status."""
 
 
-def fits(number, what):
-    """A number that the program forms in 128 bits."""
-    if not -TOP - 1 <= number <= TOP:
-        raise Verdict(3, f"wide: {what}")
-    return number
-
-
-def reject_unless(holds, what):
+def need(holds, line, status=1):
     if not holds:
-        raise Verdict(1, f"rejected: {what}")
+        raise Verdict(line, status)
 
 
-def compare(left, relation, right):
-    return {"<=": left <= right, ">=": left >= right, "=": left == right}[relation]
-
-
-# The model text. A bad one is refused at its first bad line; of the causes that the program names this file tests Form, names and numbers.
-
-NUMBER, SIGNED = r"\d+(?:[./]\d+)?", r"(?:[-+] )?\d+(?:[./]\d+)?"
-NAME = r"(?!(?:not|and|or|implies|equivalent|xor|exactly|atleast|atmost|inf|end)(?: |$))[A-Za-z_][\w.]*"
-SUM = rf"(?:[-+] )?(?:{NUMBER} )?{NAME}(?: [-+] (?:{NUMBER} )?{NAME})*"
-SHAPES = [
-    rf"(var) ({NAME}) (real|int) (- inf|{SIGNED}) (inf|{SIGNED})", rf"(boolean) ({NAME})", rf"(min|max) ({SIGNED}|{SUM}(?: [-+] {NUMBER})?)",
-    rf"(row) (0|{SUM}) (<=|>=|=) ({SIGNED})", r"(logic) (.*)", r"(disjunction) (xor|or)", rf"(disjunct) ({NAME})", r"(end)",
-]
-TOKEN = re.compile(r"[ \t]*(?:([A-Za-z_][A-Za-z0-9_.]*|[0-9]+(?:[./][0-9]+)?|<=|>=|[-+=(),])|(.))", re.DOTALL)
-ARGUMENTS = {"not": (1, 1), "implies": (2, 2), "equivalent": (2, 2), "xor": (2, 2)} | dict.fromkeys(("and", "or", "exactly", "atleast", "atmost"), (1, 200))
-
-
-class Bad(Exception):
-    """A line is refused, for a cause if it is one of an answer."""
-
-
-def need(holds, cause="refused"):
-    if not holds:
-        raise Bad(cause)
-
-
-def number(text):
-    sign, digits = -1 if text.startswith("-") else 1, text.lstrip("-+ ")
-    over, under = digits.split("/") if "/" in digits else (digits.replace(".", ""), "1" + "0" * len(digits.partition(".")[2]))
-    over, under = (part.lstrip("0") or "0" for part in (over, under))
-    need(max(len(over), len(under)) <= 16 and int(over) <= MOST and 1 <= int(under) <= MOST)
-    return Fraction(sign * int(over), int(under))
-
-
-class Block:
-    def __init__(self, indicator=None):
-        self.indicator, self.rows, self.propositions, self.choices = indicator, [], [], []
-
-
-class Model:
-    """Variables as (name, is_int, low, high, mark), Booleans by name, the goal, and the root block; ids are places in the lists."""
-
-    def __init__(self, text):
-        self.vars, self.booleans, self.goal, self.ids, self.marks = [], [], None, {}, {}
-        self.open = [Block()]
-        self.root, headed = self.open[0], False
-        lines = text.split(b"\n")
-        lines = [line.removesuffix(b"\r") for line in lines[:-1]] + ([lines[-1]] if lines[-1] else [])
-        for at, line in enumerate(lines, 1):
-            tokens = [word or "?" for word, _ in TOKEN.findall(line.split(b"#")[0].decode("latin-1").rstrip(" \t"))]
-            try:
-                need(headed or not tokens or tokens == ["gdp", "1"])
-                if headed and tokens:
-                    self.line(at, " ".join(tokens))
-                headed |= bool(tokens)
-            except Bad as bad:
-                raise Verdict(2, f"line {at}: {bad}") from None
-        if not headed or len(self.open) > 1 or not self.vars:
-            raise Verdict(2, f"line {len(lines) + 1}: refused")
-        self.goal = self.goal or ("min", [], 0, 1, 0)
-
-    def scaled(self, text, right):
-        """The terms of a sum and the right side in whole numbers, and the factor that made them whole."""
-        terms = [] if text == "0" else re.findall(rf"([-+]?) ?((?:{NUMBER} )?)({NAME})(?= |$)", text)
-        ids = [self.ids.get(name, ("", 0)) for _, _, name in terms]
-        need(all(kind == "var" for kind, _ in ids) and len(set(ids)) == len(ids))
-        listed = [(at, number(sign + (digits.strip() or "1"))) for (_, at), (sign, digits, _) in zip(ids, terms)]
-        right = number(right)
-        factor = lcm(right.denominator, *(c.denominator for _, c in listed))
-        need(all(0 < abs(c * factor) <= MOST for _, c in listed) and abs(right * factor) <= MOST)
-        return sorted((at, int(c * factor)) for at, c in listed), int(right * factor), factor
-
-    def declare(self, name, kind, listed, item, mark):
-        need(name not in self.ids and len(name) <= 64)
-        self.ids[name], self.marks[name] = (kind, len(listed)), mark
-        listed.append(item)
-
-    def line(self, mark, text):
-        found = next((m for m in (re.fullmatch(shape, text, re.ASCII) for shape in SHAPES) if m), None)
-        need(found)
-        word, *parts = found.groups()
-        block, at_root = self.open[-1], len(self.open) == 1
-        in_block = isinstance(block, Block)
-        places = {"var": at_root, "boolean": at_root and not self.root.choices, "disjunct": not in_block and len(self.open) < 17, "end": not at_root}
-        need(at_root and not self.goal if word in ("min", "max") else places.get(word, in_block))
-        if word == "var":
-            low, high = (None if "inf" in end else number(end) for end in parts[2:])
-            need(low is None or high is None or low <= high)
-            self.declare(parts[0], "var", self.vars, (parts[0], parts[1] == "int", low, high, mark), mark)
-        elif word in ("boolean", "disjunct"):
-            self.declare(parts[0], "boolean", self.booleans, parts[0], mark)
-            if word == "disjunct":
-                block[2].append(Block(len(self.booleans) - 1))
-                self.open.append(block[2][-1])
-        elif word in ("min", "max"):
-            constant = re.fullmatch(rf"(?:(.*?) )?((?:[-+] )?{NUMBER})", parts[0], re.ASCII)
-            self.goal = (word, *self.scaled(*((constant[1] or "0", constant[2]) if constant else (parts[0], "0"))), mark)
-            need(self.goal[3] <= MOST)
-        elif word == "row":
-            terms, right, _ = self.scaled(parts[0], parts[2])
-            block.rows.append((terms, parts[1], right, mark))
-        elif word == "logic":
-            tokens = [None, *reversed(parts[0].split(" "))]
-            block.propositions.append((self.proposition(tokens, 1), mark))
-            need(tokens == [None])
-        elif word == "disjunction":
-            block.choices.append((parts[0], mark, []))
-            self.open.append(block.choices[-1])
-        else:
-            need(in_block or block[2])
-            self.open.pop()
-
-    def proposition(self, tokens, depth):
-        """A Boolean's id, or (word, number, arguments)."""
-        word, count, inner = tokens.pop(), None, []
-        need(word and depth <= 16)
-        if word not in ARGUMENTS:
-            need(self.ids.get(word, "?")[0] == "boolean")
-            return self.ids[word][1]
-        need(tokens.pop() == "(")
-        if word in ("exactly", "atleast", "atmost"):
-            count = (tokens.pop() or "").lstrip("0") or "0"
-            need(re.fullmatch("[0-9]{1,4}", count) and int(count) <= 1000 and tokens.pop() == ",")
-        end = ","
-        while end == ",":
-            inner.append(self.proposition(tokens, depth + 1))
-            end = tokens.pop()
-        need(end == ")" and ARGUMENTS[word][0] <= len(inner) <= ARGUMENTS[word][1])
-        return word, count and int(count), inner
-
-
-def below(block):
-    """The blocks below a block, in the order of the text."""
-    return [one for *_, disjuncts in block.choices for disjunct in disjuncts for one in [disjunct, *below(disjunct)]]
-
-
-def reading(part, known):
-    """The truth of a proposition: True, False, or None where it isn't known."""
-    if isinstance(part, int):
-        return known.get(part)
-    word, count, inner = part
-    told = [reading(one, known) for one in inner]
-    if word in ("not", "implies"):
-        told[0] = None if told[0] is None else not told[0]
-    if word in ("equivalent", "xor"):
-        return None if None in told else (told[0] == told[1]) == (word == "equivalent")
-    least = {"and": len(told), "or": 1, "implies": 1, "not": 1}.get(word, count)
-    yes, unknown = told.count(True), told.count(None)
-    enough = True if yes >= least else False if yes + unknown < least else None
-    few = True if yes + unknown <= least else False if yes > least else None
-    both = False if False in (enough, few) else None if None in (enough, few) else True
-    return {"atmost": few, "exactly": both}.get(word, enough)
-
-
-def items(block):
-    """The conditions of a block's propositions and of its choices, and of those below, as propositions."""
-    for proposition, _ in block.propositions:
-        yield proposition if block.indicator is None else ("implies", None, [block.indicator, proposition])
-    for mode, _, disjuncts in block.choices:
-        names = [disjunct.indicator for disjunct in disjuncts]
-        chosen = ("exactly" if mode == "xor" else "atleast", 1, names)
-        inner = [("implies", None, pair) for pair in [[block.indicator, chosen], *([name, block.indicator] for name in names)]]
-        yield chosen if block.indicator is None else ("and", None, inner)
-        for disjunct in disjuncts:
-            yield from items(disjunct)
-
-
-def at_most(terms, relation, right):
-    rows = [] if relation == ">=" else [(terms, right)]
-    return rows if relation == "<=" else [*rows, ([(at, -c) for at, c in terms], -right)]
-
-
-class Program:
-    """The rewritten program: columns as (is_whole, is_free), rows as (terms, relation, right); a literal is a column with sign and constant."""
-
-    def __init__(self, model, choice):
-        self.model, self.choice, self.columns, self.rows, self.size, self.first = model, choice, [], [], 0, len(model.vars)
-        self.box = bounds_of(model)
-        for _, is_int, low, *_ in model.vars:
-            self.column(is_int, low != 0)
-        for _ in model.booleans:
-            self.column(True, False)
-        for at, (_, _, low, high, _) in enumerate(model.vars):
-            for end, relation in ((low or None, ">="), (high, "<=")):
-                if end is not None:
-                    self.row([(at, end.denominator)], relation, end.numerator)
-        for at in range(len(model.booleans)):
-            self.row([(self.first + at, 1)], "<=", 1)
-        self.block(model.root, range(self.first), None, None)
-        sense, terms, constant, scale, _ = model.goal
-        if (constant, scale) != (0, 1):
-            own = self.column(False, True)
-            self.row([(own, scale)] + [(at, -c) for at, c in terms], "=", constant)
-            terms = [(own, 1)]
-        self.goal = [(at, c if sense == "min" else -c) for at, c in terms]
-
-    def column(self, is_whole, is_free):
-        self.columns.append((is_whole, is_free))
-        self.size += 2 * is_whole
-        return len(self.columns) - 1
-
-    def row(self, terms, relation, right):
-        """Adds a row. Columns reach their limit, 4,000, only after rows reach theirs."""
-        sums, self.size = {}, self.size + 1 + (relation == "=")
-        for column, c in terms:
-            sums[column] = sums.get(column, 0) + c
-        self.rows.append((sorted((column, c) for column, c in sums.items() if c), relation, right))
-        if self.size > 3000:
-            raise Verdict(4, "too big")
-
-    def block(self, block, frame, scale, switch):
-        one = scale is None
-        for terms, relation, right, mark in block.rows:
-            made = [([(frame[at], c) for at, c in terms] + ([] if one else [(scale, -right)]), relation, right if one else 0)] if scale == switch else []
-            for signed, bound in at_most(terms, relation, right) if scale != switch else []:
-                missing = next((at for at, c in signed if self.box[at][c > 0] is None), None)
-                if missing is not None:
-                    raise Verdict(4, f"no bound at line {mark} for {self.model.vars[missing][0]}")
-                most = sum(c * self.box[at][c > 0] for at, c in signed)
-                if max(abs(most), abs(most - bound)) > MOST:
-                    raise Verdict(4, f"too wide at line {mark}")
-                own = [(frame[at], c) for at, c in signed] + [(switch, most - bound)]
-                made.append((own if one else own + [(scale, -most)], "<=", most if one else 0))
-            for row in made:
-                self.row(*row)
-        for proposition, _ in block.propositions:
-            column, sign, _ = self.literal(proposition)
-            if switch is None:
-                self.row([(column, 1)], *((">=", 1) if sign > 0 else ("<=", 0)))
-            else:
-                self.row([(switch, 1), (column, -sign)], "<=", int(sign < 0))
-        for choice in block.choices:
-            self.disjunction(*choice, frame, scale, switch)
-
-    def disjunction(self, mode, mark, disjuncts, frame, scale, switch):
-        own, on = [self.first + disjunct.indicator for disjunct in disjuncts], [] if switch is None else [(switch, -1)]
-        self.row([(y, 1) for y in own] + on, "=" if mode == "xor" else ">=", int(switch is None))
-        for y in own if mode == "or" and on else []:
-            self.row([(y, 1), *on], "<=", 0)
-        used = sorted({at for disjunct in disjuncts for block in [disjunct, *below(disjunct)] for terms, *_ in block.rows for at, _ in terms})
-        unbounded = [at for at in used if None in self.box[at]]
-        is_hull = mode == "xor" and (self.choice == "hull" or self.choice == "hybrid" and not unbounded and len(used) * len(own) <= 12)
-        frames = [frame] * len(own)
-        if is_hull and unbounded:
-            raise Verdict(4, f"no bound at line {mark} for {self.model.vars[unbounded[0]][0]}")
-        if is_hull:
-            frames = [{at: self.copy(at, [(y, 1)], 0) for at in used} for y in own]
-            rest = [(switch, -1)] + ([] if scale is None else [(scale, 1)])
-            parts = frames + ([] if scale == switch else [{at: self.copy(at, rest, int(scale is None)) for at in used}])
-            for at in used:
-                self.row([(frame[at], 1)] + [(part[at], -1) for part in parts], "=", 0)
-        for disjunct, y, copies in zip(disjuncts, own, frames):
-            self.block(disjunct, copies, y if is_hull else scale, y)
-
-    def copy(self, at, factor, constant):
-        """A copy of a variable, between its bounds times a factor."""
-        column = self.column(False, self.box[at][0] != 0)
-        for end, relation in zip(self.box[at], (">=", "<=")):
-            if end or relation == "<=":
-                self.row([(column, 1)] + [(y, -c * end) for y, c in factor], relation, constant * end)
-        return column
-
-    def literal(self, part):
-        if isinstance(part, int):
-            return self.first + part, 1, 0
-        word, count, inner = part
-        told = [self.literal(one) for one in inner]
-        if word == "implies":
-            told[0] = turned(told[0])
-        if word in ("and", "or", "implies"):
-            return self.all_of(told) if word == "and" else self.any_of(told)
-        if word in ("equivalent", "xor"):
-            z = self.connective([([1, -1], told, 1, 1), ([-1, 1], told, 1, 1), ([1, 1], told, -1, 1), ([-1, -1], told, -1, -1)])
-        elif word != "not":
-            size = len(told)
-            numbers = {"atleast": [count], "atmost": [count + 1]}.get(word, [count, count + 1])
-            z, *more = [self.connective([([-1] * size, told, n, 0), ([1] * size, told, n - 1 - size, n - 1)]) for n in numbers]
-            z = self.all_of([z, turned(more[0])]) if more else z
-        return turned(told[0]) if word == "not" else turned(z) if word in ("xor", "atmost") else z
-
-    def all_of(self, told):
-        return self.connective([([-1], [one], 1, 0) for one in told] + [([1] * len(told), told, -1, len(told) - 1)])
-
-    def any_of(self, told):
-        return self.connective([([1], [one], -1, 0) for one in told] + [([-1] * len(told), told, 1, 0)])
-
-    def connective(self, rows):
-        z = self.column(True, False)
-        self.row([(z, 1)], "<=", 1)
-        for weights, told, own, right in rows:
-            terms = [(column, w * sign) for w, (column, sign, _) in zip(weights, told)]
-            self.row([*terms, (z, own)], "<=", right - sum(w * constant for w, (*_, constant) in zip(weights, told)))
-        return z, 1, 0
-
-
-def turned(literal):
-    return literal[0], -literal[1], 1 - literal[2]
-
-
-def bounds_of(model):
-    """Whole bounds of each variable after eight rounds over the rows outside all blocks."""
-    def ends(low, high, is_inward):
-        down, up = (ceil, floor) if is_inward else (floor, ceil)
-        return low if low is None else down(low), high if high is None else up(high)
-
-    pairs = [(ends(low, high, is_int), ends(low, high, False)) for _, is_int, low, high, _ in model.vars]
-    box = [wide if None not in pair and pair[0] > pair[1] else pair for pair, wide in pairs]
-    rows = [row for terms, relation, right, _ in model.root.rows for row in at_most(terms, relation, right)]
-    for _ in range(8):
-        found = [([low], [high]) for low, high in box]
-        for terms, right in rows:
-            least = [c * box[at][c < 0] if box[at][c < 0] is not None else None for at, c in terms]
-            for (at, c), own in zip(terms, least):
-                if least.count(None) == (own is None):
-                    limit = Fraction(right - sum(filter(None, least)) + (own or 0), c)
-                    limit = ceil(limit) if (c > 0) != model.vars[at][1] else floor(limit)
-                    found[at][c > 0].extend([limit] if abs(limit) <= MOST else [])
-        new = [(max((e for e in lows if e is not None), default=None), min((e for e in highs if e is not None), default=None)) for lows, highs in found]
-        box = [old if None not in pair and pair[0] > pair[1] else pair for old, pair in zip(box, new)]
-    return box
-
-
-class Answer:
-    """An answer text: route, kind, value, point, and its nodes as lists of a word and numbers, or its steps."""
-
-    def __init__(self, model, text):
-        *self.lines, self.rest = text.decode("latin-1").split("\n")
-        self.at, self.truths = 0, dict.fromkeys(range(len(model.booleans)), False)
-        try:
-            self.read(model)
-        except Bad as bad:
-            raise Verdict(2, f"line {self.at}: {bad}") from None
-
-    def take(self, shape):
-        """The parts of the next line, which has a shape in which W is a word, I a whole number, U one without a sign, and P pairs."""
-        self.at += 1
-        need(self.at <= len(self.lines), "Form")
-        for letter, meant in (("P", "((?: U:I)*)"), ("W", "([^ \t]+)"), ("I", "(?:0|-?[1-9][0-9]*)"), ("U", "(?:0|[1-9][0-9]*)")):
-            shape = shape.replace(letter, meant)
-        found = re.fullmatch(shape, self.lines[self.at - 1])
-        need(found, "Form")
-        return found.groups()
-
-    def whole(self, digits, least=-TOP - 1, most=TOP):
-        need(len(digits) <= 40 and least <= int(digits) <= most, "Number")
-        return int(digits)
-
-    def named(self, parts, name):
-        need(parts[0] == name, "Name")
-        return self.whole(parts[1])
-
-    def read(self, model):
-        self.take("gdp-answer 1")
-        self.route, = self.take("route (bigm|hull|hybrid|logic)")
-        self.kind, over, under = self.take("(empty|endless|best(?= ))(?: (I)(?:/(U))?)?")
-        need((self.kind == "best") == (over is not None) and under not in ("0", "1"), "Form")
-        if over is not None:
-            is_wide = any(len(part) > 40 or not -TOP - 1 <= int(part) <= TOP for part in (over, under or "1"))
-            need(is_wide or gcd(int(over), int(under or "1")) == 1, "Form")
-            self.value = Fraction(self.whole(over), self.whole(under or "1"))
-        if self.kind != "empty":
-            self.over = self.whole(*self.take("over (I)"), 1)
-            self.numbers, last = [self.named(self.take("val W (I)"), name) for name, *_ in model.vars], -1
-            while self.lines[self.at : self.at + 1] and self.lines[self.at].startswith("on "):
-                kind, at = model.ids.get(*self.take("on W"), ("", 0))
-                need(kind == "boolean" and at > last, "Name")
-                last, self.truths[at] = at, True
-        if self.kind == "endless":
-            self.steps = [self.named(self.take("step W (I)"), name) for name, *_ in model.vars]
-            self.take("end")
-        else:
-            self.take("tree")
-            self.nodes, due = [], 1
-            while node := self.node():
-                need(due, "Shape")
-                self.nodes.append(node)
-                due += 1 if node[0] in ("int", "truth") else -1
-            need(not due, "Shape")
-        if self.at < len(self.lines) or self.rest:
-            self.at += 1
-            raise Bad("Form")
-
-    def node(self):
-        """The next node, or None at the end."""
-        column, at, boolean, word, scale, pairs, place, _ = self.take("int (U) (I)|truth (U)|(?:(refuted)|bounded (I))P|logic (U)|(end)")
-        listed = [pair.split(":") for pair in (pairs or "").split()]
-        need(all(m != "0" for _, m in listed) and all(longer(a, b) for (a, _), (b, _) in zip(listed, listed[1:])), "Form")
-        if column:
-            return "int", self.whole(column, 0, 2**32 - 1), self.whole(at)
-        if boolean or place:
-            return "truth" if boolean else "logic", self.whole(boolean or place, 0, 2**32 - 1)
-        scale = scale and self.whole(scale)
-        pairs = [(self.whole(i, 0, 2**32 - 1), self.whole(m)) for i, m in listed]
-        return ("refuted" if word else "bounded", scale, pairs) if word or scale is not None else None
-
-
-def longer(a, b):
-    return (len(a), a) < (len(b), b)
-
-
-def total(terms, numbers, what):
+def total(products, what):
+    """The sum of products of two numbers. The program forms each, and each sum on the way, in 128 bits."""
     found = 0
-    for at, c in terms:
-        found = fits(found + fits(c * numbers[at], what), what)
+    for a, b in products:
+        found += a * b
+        need(all(-TOP - 1 <= number <= TOP for number in (a * b, found)), f"wide: {what}", 3)
     return found
 
 
-def test_point(model, numbers, over, truths):
-    def test(block):
-        for terms, relation, right, mark in block.rows:
-            what = f"point at line {mark}"
-            reject_unless(compare(total(terms, numbers, what), relation, fits(right * over, what)), what)
-        for proposition, mark in block.propositions:
-            reject_unless(reading(proposition, truths), f"point at line {mark}")
-        for mode, mark, disjuncts in block.choices:
-            count = sum(truths[disjunct.indicator] for disjunct in disjuncts)
-            reject_unless(count == 1 or count > 1 and mode == "or", f"point at line {mark}")
-            for disjunct in disjuncts:
-                if truths[disjunct.indicator]:
-                    test(disjunct)
-                for inner in below(disjunct) if not truths[disjunct.indicator] else []:
-                    reject_unless(not truths[inner.indicator], f"point at line {model.marks[model.booleans[inner.indicator]]}")
+class Text:
+    """A text with its name; `at` is the number of the line at hand."""
 
-    for n, (_, is_int, low, high, mark) in zip(numbers, model.vars):
-        what = f"point at line {mark}"
-        for end, relation in ((low, ">="), (high, "<=")):
-            if end is not None:
-                reject_unless(compare(fits(end.denominator * n, what), relation, fits(end.numerator * over, what)), what)
-        reject_unless(not is_int or n % over == 0, what)
-    test(model.root)
+    def __init__(self, name):
+        self.name, self.at = name, 0
+
+    def need(self, holds, cause="refused"):
+        need(holds, f"{self.name}: line {self.at}: {cause}", 2)
 
 
-def rows_on(model, known):
-    """The rows outside all blocks, and those of the disjuncts that are known to be true, in the order of the text."""
-    return [row for block in [model.root, *below(model.root)] if block.indicator is None or known.get(block.indicator) for row in block.rows]
+class Model(Text):
+    """Variables, names of Booleans, the goal, and the root block. Ids are places in these lists."""
 
+    def __init__(self, name, contents):
+        super().__init__(name)
+        self.vars, self.booleans, self.ids, self.goal, is_headed = [], [], {}, (), False
+        self.root = Block(connective("and", []), 0, [], [], [])
+        self.open = [self.root]
+        *lines, last = contents.replace(b"\r\n", b"\n").split(b"\n")
+        for self.at, line in enumerate(lines + ([last] if last else []), 1):
+            tokens = [word or "?" for word, _ in TOKEN.findall(line.split(b"#")[0].decode("latin-1").rstrip(" \t"))]
+            self.need(is_headed or tokens in ([], ["gdp", "1"]))
+            if is_headed and tokens:
+                self.line(" ".join(tokens))
+            is_headed |= bool(tokens)
+        self.at += 1
+        self.need(is_headed and len(self.open) == 1 and self.vars)
+        self.sense, self.terms, self.constant, self.scale, self.goal_mark = self.goal or ("min", [], 0, 1, 0)
+        self.least = [(at, c if self.sense == "min" else -c) for at, c in self.terms]
 
-def test_ray(model, steps, truths):
-    for r, (_, _, low, high, mark) in zip(steps, model.vars):
-        reject_unless((low is None or r >= 0) and (high is None or r <= 0), f"ray at line {mark}")
-    for terms, relation, _, mark in rows_on(model, truths):
-        reject_unless(compare(total(terms, steps, f"ray at line {mark}"), relation, 0), f"ray at line {mark}")
-    what = f"ray at line {model.goal[4]}"
-    reject_unless(total(least_goal(model), steps, what) < 0, what)
-
-
-def least_goal(model):
-    return [(at, c if model.goal[0] == "min" else -c) for at, c in model.goal[1]]
-
-
-def closes(free, rows, goal, scale, pairs, best, what):
-    """Whether rows of at most, times numbers, show that there is no point, or with a scale that none is better than the best."""
-    if any(m < 0 or i >= len(rows) for i, m in pairs) or scale is not None and (best is None or scale < 1):
-        return False
-    sums = [[] for _ in free]
-    for i, m in pairs:
-        for column, c in rows[i][0]:
-            sums[column].append(m * c)
-    goal = dict(goal if scale else [])
-    for column, products in enumerate(sums):
-        found = fits((scale or 0) * goal.get(column, 0), what)
-        for product in products:
-            found = fits(found + fits(product, what), what)
-        if found < 0 or free[column] and found:
-            return False
-    found = 0
-    for i, m in pairs:
-        found = fits(found + fits(m * rows[i][1], what), what)
-    return found < 0 if scale is None else Fraction(fits(-found, what), scale) >= best
-
-
-def test_nodes(model, answer, program):
-    goal = program.goal if program else least_goal(model)
-    free = [is_free for _, is_free in program.columns] if program else [low != 0 for _, _, low, *_ in model.vars]
-    whole = [is_whole for is_whole, _ in program.columns] if program else [is_int for _, is_int, *_ in model.vars]
-    listed, conditions, best = program.rows if program else [], list(items(model.root)), None
-    for at, (_, _, low, high, _) in enumerate([] if program else model.vars):
-        listed += [([(at, end.denominator)], relation, end.numerator) for end, relation in ((low or None, ">="), (high, "<=")) if end is not None]
-    if answer.kind == "best":
-        best = answer.value * (1 if model.goal[0] == "min" else -1) if program else Fraction(sum(c * answer.numbers[at] for at, c in goal), answer.over)
-    fixed, waiting = [row for own in listed for row in at_most(*own)], [None]
-    for k, (word, *parts) in enumerate(answer.nodes):
-        path = up = waiting.pop()
-        known, lows, highs = {}, {}, {}
-        while up:
-            up, kind, at, point = up
-            if kind == "truth":
-                known[at] = point
-            elif kind == "low":
-                lows[at] = max(point, lows.get(at, point))
-            else:
-                highs[at] = min(point, highs.get(at, point))
-        if word == "int":
-            column, at = parts
-            reject_unless(column < len(whole) and whole[column] and at not in (-TOP - 1, TOP), f"tree at node {k}")
-            waiting += [(path, "low", column, at + 1), (path, "high", column, at)]
-        elif word == "truth":
-            reject_unless(not program and parts[0] < len(model.booleans) and parts[0] not in known, f"tree at node {k}")
-            waiting += [(path, "truth", parts[0], False), (path, "truth", parts[0], True)]
-        elif word == "logic":
-            is_false = not program and parts[0] < len(conditions) and reading(conditions[parts[0]], known) is False
-            reject_unless(is_false, f"leaf at node {k}")
+    def line(self, text):
+        block, at_root = self.open[-1], len(self.open) == 1
+        in_block = isinstance(block, Block)
+        if at_root and (found := re.fullmatch(rf"var ({NAME}) (real|int) (- inf|{SIGNED}) (inf|{SIGNED})", text)):
+            low, high = self.number(found[3]), self.number(found[4])
+            self.need(low <= high)
+            ends = [(end, relation) for end, relation in ((low, ">="), (high, "<=")) if abs(end) < NO_BOUND]
+            bounds = [Row([(len(self.vars), end.denominator)], sense, end.numerator, self.at) for end, sense in ends]
+            self.declare("var", found[1], self.vars, Var(found[1], found[2] == "int", low, high, bounds, self.at))
+        elif at_root and (found := re.fullmatch(rf"(min|max) (?:({SUM})(?: ([-+] {NUMBER}))?|({SIGNED}))", text)):
+            self.need(not self.goal)
+            self.goal = found[1], *self.scaled(found[2] or "", found[3] or found[4] or "0"), self.at
+            self.need(self.goal[3] <= MOST)
+        elif in_block and (found := re.fullmatch(rf"row (0|{SUM}) (<=|>=|=) ({SIGNED})", text)):
+            terms, right, _ = self.scaled(found[1], found[3])
+            block.rows.append(Row(terms, found[2], right, self.at))
+        elif in_block and text.startswith("logic "):
+            tokens = iter(text.split(" ")[1:])
+            block.propositions.append((self.proposition(tokens, 1), self.at))
+            self.need(next(tokens, None) is None)
+        elif in_block and (found := re.fullmatch("disjunction (xor|or)", text)):
+            self.open.append(Disjunction(found[1], self.at, []))
+            block.disjunctions.append(self.open[-1])
+        elif not in_block and len(self.open) <= 16 and (found := re.fullmatch(f"disjunct ({NAME})", text)):
+            self.open.append(Block(len(self.booleans), self.at, [], [], []))
+            block.disjuncts.append(self.open[-1])
+            self.declare("boolean", found[1], self.booleans, found[1])
+        elif at_root and not block.disjunctions and (found := re.fullmatch(f"boolean ({NAME})", text)):
+            self.declare("boolean", found[1], self.booleans, found[1])
         else:
-            rows = fixed + [row for own in (rows_on(model, known) if not program else []) for row in at_most(*own[:3])]
-            for column in sorted(lows.keys() | highs.keys()):
-                rows += [([(column, -1)], -lows[column])] if column in lows else []
-                rows += [([(column, 1)], highs[column])] if column in highs else []
-            reject_unless(closes(free, rows, goal, *parts, best, f"node {k}"), f"leaf at node {k}")
+            self.need(text == "end" and not at_root and (in_block or block.disjuncts))
+            self.open.pop()
+
+    def declare(self, kind, name, listed, item):
+        self.need(name not in self.ids and len(name) <= 64)
+        self.ids[name] = (kind, len(listed))
+        listed.append(item)
+
+    def number(self, text):
+        if "inf" in text:
+            return -NO_BOUND if "-" in text else NO_BOUND
+        sign, over, point, under = re.fullmatch(r"([-+]?) ?0*(\d+)(?:/0*|(\.))?(\d*)", text).groups()
+        over, under = (over + under, "1" + "0" * len(under)) if point else (over, under or "1")
+        self.need(len(over) <= 31 and len(under) <= 16 and int(over) <= MOST and 1 <= int(under) <= MOST)
+        return Fraction(int(sign + over), int(under))
+
+    def scaled(self, text, right):
+        """The terms of a sum and the right side in whole numbers, and the factor that makes them whole."""
+        found = re.findall(rf"([-+]?) ?((?:{NUMBER} )?)({NAME})(?= |$)", text)
+        ids = [self.ids.get(name, ("", 0)) for *_, name in found]
+        self.need(all(kind == "var" for kind, _ in ids) and len(set(ids)) == len(ids))
+        numbers = [self.number(sign + (digits.strip() or "1")) for sign, digits, _ in found] + [self.number(right)]
+        factor = lcm(*(number.denominator for number in numbers))
+        *whole, right = (int(number * factor) for number in numbers)
+        self.need(all(whole) and all(abs(number) <= MOST for number in [*whole, right]))
+        return sorted((at, c) for (_, at), c in zip(ids, whole)), right, factor
+
+    def proposition(self, tokens, depth):
+        """The id of the Boolean, or the connective, that the next tokens spell."""
+        word, count, parts, behind = next(tokens, ""), "1", [], ","
+        kind, at = self.ids.get(word, ("", 0))
+        self.need(depth <= 16 and (kind == "boolean" or word in ARITY and next(tokens, "") == "("))
+        if kind == "boolean":
+            return at
+        if word in ("exactly", "atleast", "atmost"):
+            count = next(tokens, "").lstrip("0") or "0"
+            self.need(re.fullmatch("[0-9]{1,4}", count) and int(count) <= 1000 and next(tokens, "") == ",")
+        while behind == ",":
+            parts.append(self.proposition(tokens, depth + 1))
+            behind = next(tokens, "")
+        self.need(behind == ")" and len(parts) == (ARITY[word] or len(parts)) and len(parts) <= 200)
+        return connective(word, parts, int(count))
+
+    def rows_on(self, known):
+        """The rows of the blocks that are known to be chosen."""
+        return [row for block in blocks(self.root) if truth(block.indicator, known) for row in block.rows]
+
+    def box(self):
+        """Whole bounds of each variable after eight rounds over the rows outside all blocks."""
+        box = [[floor(var.low), ceil(var.high)] for var in self.vars]
+        new = [[ceil(var.low), floor(var.high)] if var.is_int else ends for var, ends in zip(self.vars, box)]
+        for _ in range(9):
+            box = [ends if ends[0] <= ends[1] else old for old, ends in zip(box, new)]
+            new = [list(ends) for ends in box]
+            for terms, right in (one for row in self.root.rows for one in at_most(*row)):
+                least = sum(c * box[at][c < 0] for at, c in terms)
+                for at, c in terms:
+                    limit = Fraction(right - least + c * box[at][c < 0], c)
+                    limit = ceil(limit) if (c > 0) != self.vars[at].is_int else floor(limit)
+                    if abs(limit) <= MOST:
+                        new[at][c > 0] = min(new[at][1], limit) if c > 0 else max(new[at][0], limit)
+        return box
+
+
+def connective(word, parts, count=1):
+    """A connective as one of `not`, `and`, `or`, `equivalent`, and `atleast` or `exactly` so many."""
+    if word == "implies":
+        return connective("or", [connective("not", parts[:1]), parts[1]])
+    if word in ("xor", "atmost"):
+        return connective("not", [connective("equivalent" if word == "xor" else "atleast", parts, count + 1)])
+    return Connective(word, {"not": 0, "and": len(parts)}.get(word, count), parts)
+
+
+def truth(part, known):
+    """The truth of a proposition where these Booleans are known: True, False, or None where it is open."""
+    if isinstance(part, int):
+        return known.get(part)
+    told = [truth(one, known) for one in part.parts]
+    if part.word == "equivalent":
+        return None if None in told else told[0] == told[1]
+    fewest, most, limit = told.count(True), len(told) - told.count(False), len(told)
+    limit = part.count if part.word in ("not", "exactly") else limit
+    is_false = fewest > limit or most < part.count
+    return False if is_false else True if part.count <= fewest and most <= limit else None
+
+
+def blocks(block):
+    """A block and all below it, in the order of the text."""
+    return [block, *(one for choice in block.disjunctions for disjunct in choice.disjuncts for one in blocks(disjunct))]
+
+
+def conditions(block):
+    """What `logic P` counts: a block's propositions and its choices, then those of the blocks below."""
+    own = block.indicator
+    yield from (connective("implies", [own, proposition]) for proposition, _ in block.propositions)
+    for mode, _, disjuncts in block.disjunctions:
+        names = [disjunct.indicator for disjunct in disjuncts]
+        pairs = [[own, connective("exactly" if mode == "xor" else "atleast", names)], *([name, own] for name in names)]
+        yield connective("and", [connective("implies", pair) for pair in pairs])
+        for disjunct in disjuncts:
+            yield from conditions(disjunct)
+
+
+def at_most(terms, relation, right, _mark=0):
+    """A row as rows of at most, of terms and a right side; an equality is two."""
+    signs = {"<=": [1], ">=": [-1], "=": [1, -1]}[relation]
+    return [([(at, sign * c) for at, c in terms], sign * right) for sign in signs]
+
+
+class Sum(dict):
+    """A linear expression: columns with coefficients. The column None stands for the number 1."""
+
+    def __add__(self, other):
+        return Sum({column: self.get(column, 0) + other.get(column, 0) for column in self | other})
+
+    def __rmul__(self, factor):
+        return Sum({column: factor * c for column, c in self.items()})
+
+    def __sub__(self, other):
+        return self + -1 * other
+
+
+ONE = Sum({None: 1})
+
+
+class Program:
+    """What nodes speak of: columns as (is_whole, is_free), rows of at most, and the terms of a goal to be minimised."""
+
+    def __init__(self, model, route):
+        self.model, self.route, self.rows, self.goal = model, route, [], model.least
+        self.columns = [(var.is_int, var.low != 0) for var in model.vars]
+        self.truths = [self.column(True, False) for _ in model.booleans if route != "logic"]
+        for row in (row for var in model.vars for row in var.bounds if row.right or row.relation == "<="):
+            self.row(Sum(row.terms) - row.right * ONE, row.relation)
+        for one in self.truths:
+            self.row(one - ONE)
+        if route != "logic":
+            self.box = model.box()
+            self.block(model.root, range(len(model.vars)), ONE, ONE)
+            if (model.constant, model.scale) != (0, 1):
+                self.goal = [(len(self.columns), 1 if model.sense == "min" else -1)]
+                self.row(model.scale * self.column(False, True) - Sum(model.terms) - model.constant * ONE, "=")
+
+    def column(self, is_whole, is_free):
+        self.columns.append((is_whole, is_free))
+        return Sum({len(self.columns) - 1: 1})
+
+    def row(self, expression, relation="<="):
+        """Adds the row that an expression is at most, at least or equal to 0. Rows reach their limit before columns."""
+        terms = sorted((column, c) for column, c in expression.items() if c and column is not None)
+        self.rows += at_most(terms, relation, -expression.get(None, 0))
+        need(len(self.rows) + 2 * sum(is_whole for is_whole, _ in self.columns) <= 3000, "too big", 4)
+
+    def block(self, block, frame, scale, switch):
+        """The rows of a block, on the columns of the frame, where the switch is 1."""
+        for row in block.rows:
+            for one in [self.switched(*one, row.mark, frame, scale, switch) for one in at_most(*row)]:
+                self.row(one)
+        for proposition, _ in block.propositions:
+            self.row(switch - self.literal(proposition))
+        for choice in block.disjunctions:
+            self.disjunction(*choice, frame, scale, switch)
+
+    def switched(self, terms, right, mark, frame, scale, switch):
+        """A row that holds where the switch is 1, times the scale; where it is 0 it leaves all that the box leaves."""
+        most = 0
+        for at, c in terms if scale != switch else []:
+            need(abs(self.box[at][c > 0]) < NO_BOUND, f"no bound at line {mark} for {self.model.vars[at].name}", 4)
+            most += c * self.box[at][c > 0]
+        need(scale == switch or max(abs(most), abs(most - right)) <= MOST, f"too wide at line {mark}", 4)
+        return Sum({frame[at]: c for at, c in terms}) + (most - right) * switch - most * scale
+
+    def disjunction(self, mode, mark, disjuncts, frame, scale, switch):
+        own = [self.truths[disjunct.indicator] for disjunct in disjuncts]
+        self.row(sum(own, Sum()) - switch, "=" if mode == "xor" else ">=")
+        for one in own if mode == "or" and switch != ONE else []:
+            self.row(one - switch)
+        used = sorted({at for one in disjuncts for block in blocks(one) for row in block.rows for at, _ in row.terms})
+        unbounded = [self.model.vars[at].name for at in used if NO_BOUND in map(abs, self.box[at])]
+        is_small = not unbounded and len(used) * len(own) <= 12
+        is_hull = mode == "xor" and (self.route == "hull" or self.route == "hybrid" and is_small)
+        frames = [frame] * len(own)
+        if is_hull:
+            need(not unbounded, f"no bound at line {mark} for {''.join(unbounded[:1])}", 4)
+            frames = [{at: self.copy(at, one) for at in used} for one in own]
+            rest = [] if scale == switch else [{at: self.copy(at, scale - switch) for at in used}]
+            for at in used:
+                self.row(Sum({frame[at]: 1}) - Sum({part[at]: 1 for part in frames + rest}), "=")
+        for disjunct, one, copies in zip(disjuncts, own, frames):
+            self.block(disjunct, copies, one if is_hull else scale, one)
+
+    def copy(self, at, factor):
+        """The place of a new column for a copy of a variable, between its bounds times a factor."""
+        low, high = self.box[at]
+        own = self.column(False, low != 0)
+        if low:
+            self.row(own - low * factor, ">=")
+        self.row(own - high * factor)
+        return next(iter(own))
+
+    def literal(self, part):
+        """The truth of a proposition, 0 or 1. Rows for its parts come first."""
+        if isinstance(part, int):
+            return self.truths[part]
+        (word, count, parts), told = part, [self.literal(one) for one in part.parts]
+        if word == "exactly":
+            word, told = "and", [self.marked("atleast", count, told), ONE - self.marked("atleast", count + 1, told)]
+        return ONE - told[0] if word == "not" else self.marked(word, count, told)
+
+    def marked(self, word, count, told):
+        """A new column that is 1 exactly where the connective holds."""
+        z, every, p, q = self.column(True, False), sum(told, Sum()), told[0], told[-1]
+        for row in [z - ONE] + {
+            "and": [*(z - one for one in told), every - z - (len(told) - 1) * ONE],
+            "or": [*(one - z for one in told), z - every],
+            "equivalent": [z + p - q - ONE, z - p + q - ONE, p + q - z - ONE, ONE - p - q - z],
+            "atleast": [count * z - every, every - (len(told) - count + 1) * z - (count - 1) * ONE],
+        }[word]:
+            self.row(row)
+        return z
+
+    def closes(self, rows, scale, pairs, best, what):
+        """Whether rows, times numbers, leave no point, or with a scale for the goal none better than the best."""
+        if any(m < 0 or i >= len(rows) for i, m in pairs) or scale and (best is None or scale[0] < 1):
+            return False
+        products = {column: [(c, *scale)] for column, c in self.goal if scale}
+        for i, m in pairs:
+            for column, c in rows[i][0]:
+                products.setdefault(column, []).append((c, m))
+        for column, (_, is_free) in enumerate(self.columns):
+            found = total(products.get(column, []), what)
+            if found < 0 or is_free and found:
+                return False
+        found = total([(rows[i][1], m) for i, m in pairs], what)
+        return Fraction(total([(-1, found)], what), *scale) >= best if scale else found < 0
+
+
+class Answer(Text):
+    """An answer text: route, claim, value, point, and its steps, or its nodes of a word, numbers and pairs."""
+
+    def __init__(self, name, contents, model):
+        super().__init__(name)
+        *self.lines, rest = contents.decode("latin-1").split("\n")
+        self.truths, last = dict.fromkeys(range(len(model.booleans)), False), -1
+        self.take("gdp-answer 1")
+        (self.route,) = self.take("route (bigm|hull|hybrid|logic)")
+        claim, over, under = self.take(f"(empty|endless)|best {WHOLE}(?:/(?!1$)([1-9][0-9]*))?")
+        self.claim, under = claim or "best", under or "1"
+        if over:
+            self.value = Fraction(self.whole(over), self.whole(under))
+            self.need(self.value.denominator == int(under), "Form")
+        if self.claim != "empty":
+            self.over = self.whole(*self.take(f"over {WHOLE}"), least=1)
+            self.numbers = [self.named(var.name, *self.take(f"val {WORD} {WHOLE}")) for var in model.vars]
+            while "".join(self.lines[self.at : self.at + 1]).startswith("on "):
+                kind, at = model.ids.get(*self.take(f"on {WORD}"), ("", 0))
+                self.need(kind == "boolean" and at > last, "Name")
+                last, self.truths[at] = at, True
+        if self.claim == "endless":
+            self.steps = [self.named(var.name, *self.take(f"step {WORD} {WHOLE}")) for var in model.vars]
+            self.take("end")
+        else:
+            self.take("tree")
+            self.nodes = list(self.tree())
+        self.at += 1
+        self.need(self.at > len(self.lines) and not rest, "Form")
+
+    def take(self, shape):
+        """The parts of the next line."""
+        self.at += 1
+        found = self.at <= len(self.lines) and re.fullmatch(shape, self.lines[self.at - 1])
+        self.need(found, "Form")
+        return found.groups()
+
+    def whole(self, digits, most=TOP, least=-TOP - 1):
+        self.need(len(digits) <= 40 and least <= int(digits) <= most, "Number")
+        return int(digits)
+
+    def named(self, due, name, digits):
+        self.need(name == due, "Name")
+        return self.whole(digits)
+
+    def tree(self):
+        """The nodes up to the end."""
+        due, word = 1, ""
+        shape = f"(int) {PLACE} {WHOLE}|(truth|logic) {PLACE}|(refuted){PAIRS}|(bounded) {WHOLE}{PAIRS}|(end)"
+        while word != "end":
+            word, *numbers = [part for part in self.take(shape) if part is not None]
+            pairs = [pair.split(":") for pair in numbers.pop().split()] if word in ("refuted", "bounded") else []
+            places = [(len(i), i) for i, _ in pairs]
+            self.need(places == sorted(set(places)), "Form")
+            numbers = [self.whole(n, TOP if k or word == "bounded" else TOP_ID) for k, n in enumerate(numbers)]
+            pairs = [(self.whole(i, TOP_ID), self.whole(m)) for i, m in pairs]
+            self.need((due == 0) == (word == "end"), "Shape")
+            due += 1 if word in ("int", "truth") else -1
+            yield word, numbers, pairs
+
+
+def test_all(kind, tests, numbers, over):
+    """Makes tests of numbers over a denominator, each with its mark: a row, or what is true or not."""
+    for mark, test in tests:
+        what = f"{kind} at line {mark}"
+        if isinstance(test, Row):
+            left, right = total([(c, numbers[at]) for at, c in test.terms], what), total([(test.right, over)], what)
+            test = {"<=": left <= right, ">=": left >= right, "=": left == right, "<": left < right}[test.relation]
+        need(test, f"rejected: {what}")
+
+
+def point_tests(block, truths):
+    """What a point has to meet in a block, in order."""
+    yield from ((row.mark, row) for row in block.rows)
+    yield from ((mark, truth(proposition, truths)) for proposition, mark in block.propositions)
+    for mode, mark, disjuncts in block.disjunctions:
+        count = sum(truths[disjunct.indicator] for disjunct in disjuncts)
+        yield mark, count == 1 or count > 1 and mode == "or"
+        for disjunct in disjuncts:
+            is_on = truths[disjunct.indicator]
+            yield from ((inner.mark, is_on or not truths[inner.indicator]) for inner in blocks(disjunct)[1:])
+            yield from point_tests(disjunct, truths) if is_on else []
+
+
+def test_nodes(model, answer, program, best):
+    """Goes through the nodes. At each, Booleans are known, and columns have ends, by the splits above it."""
+    by_logic, listed, waiting = answer.route == "logic", list(conditions(model.root)), [({}, {})]
+    for k, (word, numbers, pairs) in enumerate(answer.nodes[:-1]):
+        (known, ends), first, at = waiting.pop(), (numbers or [0])[0], (numbers or [0])[-1]
+        if word == "int":
+            is_whole = first < len(program.columns) and program.columns[first][0]
+            need(is_whole and at not in (-TOP - 1, TOP), f"rejected: tree at node {k}")
+            for key, right in (((first, -1), -at - 1), ((first, 1), at)):
+                waiting.append((known, {**ends, key: min(right, ends.get(key, right))}))
+        elif word == "truth":
+            need(by_logic and at < len(model.booleans) and at not in known, f"rejected: tree at node {k}")
+            waiting += [({**known, at: half}, ends) for half in (False, True)]
+        elif word == "logic":
+            is_false = by_logic and at < len(listed) and truth(listed[at], known) is False
+            need(is_false, f"rejected: leaf at node {k}")
+        else:
+            own = [one for row in model.rows_on(known) for one in at_most(*row)] if by_logic else []
+            own += [([(column, sign)], right) for (column, sign), right in sorted(ends.items())]
+            is_closed = program.closes(program.rows + own, numbers, pairs, best, f"node {k}")
+            need(is_closed, f"rejected: leaf at node {k}")
 
 
 def check(model, answer):
-    if answer.kind != "empty":
-        test_point(model, answer.numbers, answer.over, answer.truths)
-    _, goal, constant, scale, _ = model.goal
-    if answer.kind == "best":
-        found = total([*goal, (-1, constant)], [*answer.numbers, answer.over], "value")
-        reject_unless(Fraction(found, fits(scale * answer.over, "value")) == answer.value, "value")
-    if answer.kind == "endless":
-        test_ray(model, answer.steps, answer.truths)
-    else:
-        test_nodes(model, answer, None if answer.route == "logic" else Program(model, answer.route))
+    """Makes the tests of an answer, in order."""
+    best = None
+    if answer.claim != "empty":
+        pairs = list(zip(model.vars, answer.numbers))
+        tests = [(var.mark, test) for var, n in pairs for test in [*var.bounds, not var.is_int or n % answer.over == 0]]
+        test_all("point", [*tests, *point_tests(model.root, answer.truths)], answer.numbers, answer.over)
+    if answer.claim == "endless":
+        rows = [Row([(at, 1)], row.relation, 0, row.mark) for at, var in enumerate(model.vars) for row in var.bounds]
+        rows += [*model.rows_on(answer.truths), Row(model.least, "<", 0, model.goal_mark)]
+        return test_all("ray", [(row.mark, row._replace(right=0)) for row in rows], answer.steps, 0)
+    if answer.claim == "best":
+        found = total([*((c, answer.numbers[at]) for at, c in model.terms), (model.constant, answer.over)], "value")
+        need(Fraction(found, total([(model.scale, answer.over)], "value")) == answer.value, "rejected: value")
+        best = answer.value if model.sense == "min" else -answer.value
+        if answer.route == "logic":
+            best = Fraction(sum(c * answer.numbers[at] for at, c in model.least), answer.over)
+    return test_nodes(model, answer, Program(model, answer.route), best)
 
 
 def main(names):
     """Prints the line that is said, and gives the status."""
     try:
-        if len(names) != 2:
-            raise Verdict(7, "usage: check_certificate.py MODEL ANSWER")
+        need(len(names) == 2, "usage: check_certificate.py MODEL ANSWER", 7)
         texts = [pathlib.Path(name).read_bytes() for name in names]
         for name, text, most in zip(names, texts, (8_388_608, 2**40)):
-            if len(text) > most:
-                raise Verdict(2, f"{name}: too long")
-        try:
-            name = names[0]
-            model = Model(texts[0])
-            name = names[1]
-            answer = Answer(model, texts[1])
-        except Verdict as bad:
-            raise Verdict(2, f"{name}: {bad.args[1]}") from None
-        check(model, answer)
-        raise Verdict(0, "accepted")
+            need(len(text) <= most, f"{name}: too long", 2)
+        model = Model(names[0], texts[0])
+        check(model, Answer(names[1], texts[1], model))
+        line, status = "accepted", 0
     except Verdict as verdict:
-        status, line = verdict.args
-        print(line, file=sys.stderr if status in (2, 4, 7) else sys.stdout)
-        return status
+        line, status = verdict.args
+    print(line, file=sys.stderr if status in (2, 4, 7) else sys.stdout)
+    return status
 
 
 if __name__ == "__main__":

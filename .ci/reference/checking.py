@@ -17,14 +17,10 @@ TOOL = loaded()
 
 def check_texts(model_text, answer_text, name):
     """The status and the line, of a model text that can be read and an answer text of this name."""
-    status, line = 0, "accepted"
-    model = TOOL.Model(model_text)
     try:
-        answer = TOOL.Answer(model, answer_text)
-    except TOOL.Verdict as bad:
-        return 2, f"{name}: {bad.args[1]}"
-    try:
-        TOOL.check(model, answer)
+        model = TOOL.Model("M", model_text)
+        TOOL.check(model, TOOL.Answer(name, answer_text, model))
     except TOOL.Verdict as verdict:
-        status, line = verdict.args
-    return status, line
+        line, status = verdict.args
+        return status, line
+    return 0, "accepted"
