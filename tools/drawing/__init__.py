@@ -1,0 +1,1 @@
+"""Pictures of plans and of searches. No part of what is proved."""
