@@ -33,8 +33,9 @@ from .model import Model
 from .places import Place
 from .program import find_program
 from .propositions import Boolean, Proposition, atleast, atmost, equivalent, exactly, implies, land, lnot, lor, xor
+from .version import VERSION
 
-__version__ = "0.1.0"
+__version__ = VERSION
 
 __all__ = [
     "Boolean",
