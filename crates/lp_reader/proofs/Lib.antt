@@ -1,0 +1,5 @@
+pub mod Changed
+pub mod Gathered
+pub mod Lined
+pub mod Scaled
+pub mod Told
