@@ -8,7 +8,7 @@ use Rattle.std.proofs.lemmas.Bool.Decides.{nat_tests}
 use Rattle.std.proofs.lemmas.Int.{to_z-of_z}
 use Rattle.std.proofs.lemmas.List.{at_drop_more}
 use Rattle.std.proofs.lemmas.Nat.Gcd.{same_from_IsGcd}
-use Rattle.fractions.specs.Memory.{OrMemory, refused_or}
+use Rattle.outcomes.specs.Calls.{OrMemory, refused_or}
 use Rattle.lp_rows.specs.declared.rows.RowError.{RowError}
 use Rattle.lp_rows.specs.declared.rows.RowError.TheVariants as error
 use Rattle.fractions.specs.Fraction.{Fraction}
@@ -18,7 +18,7 @@ use Rattle.text_grammar.proofs.Bools.{told}
 use Rattle.lp_grammar.specs.Scaling.{divisor_of, common_multiple, scale_with, scale_over, scaled, stored_terms}
 use Rattle.lp_grammar.specs.Taking.{Objective, row_by, objective_by}
 use Rattle.lp_reader.specs.Stored.{if_storable, stored_on}
-use Rattle.lp_tokens.proofs.Lowest.{divisor_is}
+use Rattle.lp_grammar.proofs.Scales.{divisor_is}
 
 -- the least common multiple by a greatest common divisor
 multiple_by : (p q g : ℕ) → IsGcd p q g → p * (q / g) ≡ common_multiple p q

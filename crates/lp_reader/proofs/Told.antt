@@ -1,5 +1,7 @@
 -- What is read is what the text spells, or its first bad line.
-use Rattle.std.proofs.Common.{◌≡◌, ◌∙◌, ap, sym, ℕ, ◌+◌, Bool, true, false, not, ◌||◌, List, length, Result, Ok, Err, refl, subst, inl, inr, IfOk, IfErr}
+use Rattle.std.proofs.Common.{◌≡◌, ◌∙◌, ap, sym, ℕ, ◌+◌, Bool, true, false, not, ◌||◌, List, length, Result, Ok, Err, Option, Some, None, if◌then◌else◌, ◌⊎◌, refl, subst, inl, inr, IfOk, IfErr}
+use Rattle.std.proofs.lemmas.Bool.{cond-true, cond-false}
+use Rattle.text_grammar.proofs.Bools.{told}
 use Rattle.outcomes.specs.Calls.{OrMemory}
 use Rattle.text_grammar.specs.Grammars.{IsExact, at_line, then_on, follow_by, given_by}
 use Rattle.text_grammar.specs.Lines.{lines_of}
@@ -9,7 +11,8 @@ use Rattle.lp_grammar.specs.declared.cause.LpCause.{LpCause}
 use Rattle.lp_grammar.specs.declared.cause.LpCause.TheVariants as cause
 use Rattle.lp_grammar.specs.Canonical.{lp_text_of}
 use Rattle.lp_grammar.specs.Laws.{written_program}
-use Rattle.lp_grammar.specs.Milps.{MilpValue, IsMilp}
+use Rattle.lp_grammar.specs.Programs.{IsMilp}
+use Rattle.milps.specs.Milps.{MilpValue}
 use Rattle.lp_grammar.proofs.Written.{written_spells}
 use Rattle.lp_grammar.specs.Items.{Line, lp_lines}
 use Rattle.lp_grammar.specs.Reading.{LpValue, may_end, is_empty, is_within, milp_of, lp_of, program_after, lp_grammar}
@@ -17,7 +20,9 @@ use Rattle.lp_grammar.specs.Spelling.{LpSpells, IsFirstBadOfLp}
 use Rattle.lp_grammar.specs.Taking.{Taken, nothing_taken}
 use Rattle.lp_reader.specs.declared.read.LpError.{LpError}
 use Rattle.lp_reader.specs.declared.read.LpError.TheVariants.{At, Memory}
+use Rattle.lp_reader.specs.Kept.{IsKept}
 use Rattle.lp_reader.specs.Read.{Follows, LinesTell, IsBad}
+use Rattle.lp_reader.proofs.Kept.{start_kept, lines_kept}
 
 -- the laws of the grammar
 exact : IsExact lp_grammar
@@ -58,18 +63,32 @@ pub unfinished : (t : Taken) → (not (may_end t.stage) || is_empty t.names) ≡
 unfolding program_after ended
 unfinished t e = ap (λ (b : Bool). ended b (not (is_within (milp_of t))) (lp_of t)) e
 
-pub past_limits : (t : Taken) (p : LpValue) → p ≡ lp_of t → (not (may_end t.stage) || is_empty t.names) ≡ false → is_within p.milp ≡ false → program_after t ≡ Err cause.Limit
+past_limits : (t : Taken) → (not (may_end t.stage) || is_empty t.names) ≡ false → is_within (milp_of t) ≡ false → program_after t ≡ Err cause.Limit
 unfolding program_after ended
-past_limits t p is e w =
+past_limits t e w =
     ap (λ (b : Bool). ended b (not (is_within (milp_of t))) (lp_of t)) e
-    ∙ ap (λ (b : Bool). ended false (not b) (lp_of t)) (ap (λ (q : LpValue). is_within q.milp) (sym is) ∙ w)
+    ∙ ap (λ (b : Bool). ended false (not b) (lp_of t)) w
 
-pub finished : (t : Taken) (p : LpValue) → p ≡ lp_of t → (not (may_end t.stage) || is_empty t.names) ≡ false → is_within p.milp ≡ true → program_after t ≡ Ok p
+finished : (t : Taken) → (not (may_end t.stage) || is_empty t.names) ≡ false → is_within (milp_of t) ≡ true → program_after t ≡ Ok (lp_of t)
 unfolding program_after ended
-finished t p is e w =
+finished t e w =
     ap (λ (b : Bool). ended b (not (is_within (milp_of t))) (lp_of t)) e
-    ∙ ap (λ (b : Bool). ended false (not b) (lp_of t)) (ap (λ (q : LpValue). is_within q.milp) (sym is) ∙ w)
-    ∙ ap (ended false false) (sym is)
+    ∙ ap (λ (b : Bool). ended false (not b) (lp_of t)) w
+
+-- what is built at the end
+pub none_given : (t : Taken) → (not (may_end t.stage) || is_empty t.names) ≡ false → None ≡ (if is_within (milp_of t) then Some (lp_of t) else None) → program_after t ≡ Err cause.Limit
+none_given t e n = go (told (is_within (milp_of t)))
+  where
+    go : (is_within (milp_of t) ≡ true) ⊎ (is_within (milp_of t) ≡ false) → program_after t ≡ Err cause.Limit
+    go (inl w) = absurd (cc (n ∙ cond-true (is_within (milp_of t)) (Some (lp_of t)) None w))
+    go (inr w) = past_limits t e w
+
+pub some_given : (t : Taken) (p : LpValue) → (not (may_end t.stage) || is_empty t.names) ≡ false → Some p ≡ (if is_within (milp_of t) then Some (lp_of t) else None) → program_after t ≡ Ok p
+some_given t p e n = go (told (is_within (milp_of t)))
+  where
+    go : (is_within (milp_of t) ≡ true) ⊎ (is_within (milp_of t) ≡ false) → program_after t ≡ Ok p
+    go (inl w) = let same : p ≡ lp_of t = cc (n ∙ cond-true (is_within (milp_of t)) (Some (lp_of t)) None w) in finished t e w ∙ ap (λ (q : LpValue). Ok q) (sym same)
+    go (inr w) = absurd (cc (n ∙ cond-false (is_within (milp_of t)) (Some (lp_of t)) None w))
 
 -- the text of a program gives that program, or memory is wanted
 pub written_read : (m : MilpValue) (text : List ℕ) (r : Result LpValue LpError) → IsMilp m → text ≡ lp_text_of m → IfOk r (LpSpells text) → IfErr r (IsBad text) → OrMemory Memory r (Ok (written_program m))
@@ -77,3 +96,7 @@ written_read m text (Ok p) is e spelled bad = inl (ap (λ (q : LpValue). Ok q) (
 written_read m text (Err (At line cause)) is e spelled bad =
     absurd (exact.never_both (lines text) (written_program m) line cause (subst (λ (t : List ℕ). LpSpells t (written_program m)) (sym e) (written_spells m is)) bad)
 written_read m text (Err Memory) is e spelled bad = inr refl
+
+-- what the lines lead to is kept
+pub follows_kept : (text : List ℕ) (t after : Taken) (line : ℕ) → t ≡ nothing_taken → Follows text t after line → IsKept after
+follows_kept text t after line start follows = lines_kept 1 t after (lines text) (subst (λ (u : Taken). IsKept u) (sym start) start_kept) follows.lead

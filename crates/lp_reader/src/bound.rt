@@ -33,16 +33,15 @@ ghost use Rattle.lp_grammar.specs.Tokens.{Name};
 ghost use Rattle.lp_tokens.specs.Views.{numeral, piece};
 ghost use Rattle.lp_reader.specs.Taken.{taken_of, Leaves};
 
-use lp_tokens::is_huge;
 use crate::row::is_minus;
 use crate::taking::Taking;
-use lp_tokens::{Numeral, Token};
-use lp_tokens::value::{signed_or_one, value, whole_number};
-use lp_tokens::words::{is_free_word, is_infinite_word};
 use fractions::Frac;
-use outcomes::Memory;
 use lp_grammar::{Column, Stage};
 use lp_rows::Rel;
+use lp_tokens::value::{signed_or_one, value, whole_number};
+use lp_tokens::words::{is_free_word, is_infinite_word};
+use lp_tokens::{Numeral, Token, is_huge};
+use outcomes::Memory;
 use std::alloc::Global;
 
 /// The value of a bound with its sign, none where it is infinite.

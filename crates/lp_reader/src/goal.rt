@@ -9,11 +9,11 @@ ghost use Rattle.lp_tokens.specs.Views.{piece};
 ghost use Rattle.lp_reader.specs.Taken.{taken_of, Leaves};
 
 use crate::taking::{Taking, coefficient, no_pending, push_sign, sized};
+use fractions::Frac;
+use lp_grammar::{Pending, Stage};
 use lp_tokens::Token;
 use lp_tokens::value::value;
-use fractions::Frac;
 use outcomes::Memory;
-use lp_grammar::{Pending, Stage};
 use std::alloc::Global;
 
 impl Taking {

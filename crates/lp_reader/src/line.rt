@@ -9,12 +9,11 @@ ghost use Rattle.lp_grammar.specs.Tokens.{tokens_of};
 ghost use Rattle.lp_reader.specs.Taken.{taken_of, line_before, Leaves, LineLeaves};
 ghost use Rattle.lp_tokens.specs.Views.{piece};
 
-use lp_tokens::{Items, colon_before};
 use crate::taking::Taking;
-use lp_tokens::{Token, Tokens};
-use lp_tokens::words::{are_barred_words, are_constraints, is_barred_word, section};
-use outcomes::Memory;
 use lp_grammar::{LpCause, Section};
+use lp_tokens::words::{are_barred_words, are_constraints, is_barred_word, section};
+use lp_tokens::{Items, Token, Tokens, colon_before};
+use outcomes::Memory;
 use std::alloc::Global;
 
 /// The section that a word would open, with the tokens after it.

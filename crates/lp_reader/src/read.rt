@@ -4,7 +4,8 @@ ghost use Rattle.std.specs.Prelude.{◌≡◌, ◌-◌, ◌^◌, ◌<◌, length
 ghost use Rattle.outcomes.specs.Calls.{OrMemory};
 ghost use Rattle.lp_grammar.specs.Canonical.{lp_text_of};
 ghost use Rattle.lp_grammar.specs.Laws.{written_program};
-ghost use Rattle.lp_grammar.specs.Milps.{MilpValue, IsMilp};
+ghost use Rattle.lp_grammar.specs.Programs.{IsMilp};
+ghost use Rattle.milps.specs.Milps.{MilpValue};
 ghost use Rattle.lp_grammar.specs.Spelling.{LpSpells};
 ghost use Rattle.lp_reader.specs.declared.read.LpError.TheVariants.{Memory};
 ghost use Rattle.lp_reader.specs.Read.{Follows, LinesTell, IsBad};
@@ -21,7 +22,7 @@ use text_reader::first_line;
 pub enum LpError {
     /// The first bad line, or the line behind the last where something is missing, and the cause.
     At { line: u32, cause: LpCause },
-    /// Memory was wanted and not had.
+    /// Memory ran out.
     Memory,
 }
 
@@ -69,16 +70,14 @@ fn read_text(alloc: Global, text: &[u8]) -> Result<LpFile, LpError>
                     cause: LpCause::Form,
                 });
             }
-            let Ok(program) = taking.into_program(alloc) else {
-                return Err(LpError::Memory);
-            };
-            if !program.is_within() {
-                return Err(LpError::At {
+            match taking.into_program(alloc) {
+                Err(_) => Err(LpError::Memory),
+                Ok(None) => Err(LpError::At {
                     line: end,
                     cause: LpCause::Limit,
-                });
+                }),
+                Ok(Some(program)) => Ok(program),
             }
-            Ok(program)
         }
     }
 }

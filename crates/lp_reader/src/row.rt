@@ -4,19 +4,19 @@ ghost use Rattle.std.specs.Prelude.{◌≡◌, ◌≤◌, None, Some, IfOk, OnOk
 ghost use Rattle.lp_rows.specs.Rows.{is_storable};
 ghost use Rattle.lp_grammar.specs.Taking.{column_of as column_of_name, with_row_term, with_row as with_one_row, row_of, or_one, turned_if};
 ghost use Rattle.lp_grammar.specs.Reading.{row_token, right_token, with_number as with_one_number, is_minus as is_minus_of};
-ghost use Rattle.lp_grammar.specs.Milps.{height_of};
+ghost use Rattle.milps.specs.Building.{height_of};
 ghost use Rattle.lp_grammar.specs.Tokens.{Name, Sign, Compare};
 ghost use Rattle.lp_tokens.specs.Views.{piece};
 ghost use Rattle.lp_reader.specs.Taken.{taken_of, row_size, Leaves};
 
 use crate::scaling::make_row;
 use crate::taking::{Taking, coefficient, no_pending, push_sign, sized};
-use lp_tokens::Token;
-use lp_tokens::value::{signed_or_one, value};
 use fractions::Frac;
-use outcomes::Memory;
 use lp_grammar::{LpCause, Pending, Stage};
 use lp_rows::{Rel, Row};
+use lp_tokens::Token;
+use lp_tokens::value::{signed_or_one, value};
+use outcomes::Memory;
 use std::alloc::Global;
 
 /// How many rows one counts.

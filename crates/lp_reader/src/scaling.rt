@@ -6,10 +6,10 @@ ghost use Rattle.lp_grammar.specs.Taking.{row_by, row_of, objective_by, objectiv
 ghost use Rattle.lp_reader.specs.Stored.{if_storable, if_some_term, stored_on};
 
 use crate::objective::Objective;
-use fractions::divisors::gcd_of_magnitudes;
 use fractions::Frac;
-use outcomes::Memory;
+use fractions::divisors::gcd_of_magnitudes;
 use lp_rows::{Rel, Row, Terms, is_storable};
+use outcomes::Memory;
 use std::alloc::Global;
 
 /// The greatest scale.
@@ -29,7 +29,9 @@ fn denominator(fraction: Frac) -> u128
 /// The scale and one denominator more, if it is at most 10^30.
 fn scale_with(denominator: u128, scale: u128) -> Option<u128>
     requires some { 0 < denominator }
+    requires some_scale { 0 < scale }
     ensures scale { result ≡ with_denominator denominator (Some scale) }
+    ensures some { IfSome result (λ k. 0 < k) }
     ensures small { IfSome result (λ k. k ≤ 10 ^ 30) }
 {
     let common = gcd_of_magnitudes(scale, denominator);
@@ -48,6 +50,7 @@ fn scale_with(denominator: u128, scale: u128) -> Option<u128>
 /// The least whole number that makes the terms and this number whole.
 fn common_scale(terms: &[(usize, Frac)], number: Frac) -> Option<u128>
     ensures scale { result ≡ scale_of terms.now number }
+    ensures some { IfSome result (λ k. 0 < k) }
     ensures small { IfSome result (λ k. k ≤ 10 ^ 30) }
 {
     match scale_with(denominator(number), 1) {
@@ -163,7 +166,8 @@ fn objective_times(
     terms: &[(usize, Frac)],
     constant: Frac,
 ) -> Result<Option<Objective>, Memory>
-    requires { scale ≤ 10 ^ 30 }
+    requires some { 0 < scale }
+    requires small { scale ≤ 10 ^ 30 }
     ensures { IfOk result (λ objective. objective ≡ objective_by (Some scale) terms.now constant) }
 {
     let Some(terms) = stored_terms(alloc, scale, terms)? else {

@@ -9,12 +9,12 @@ ghost use Rattle.lp_reader.specs.Taken.{taken_of, Leaves};
 
 use crate::scaling::make_objective;
 use crate::taking::{Taking, no_pending};
-use lp_tokens::Token;
-use lp_tokens::value::whole_number;
 use fractions::Frac;
-use outcomes::Memory;
 use lp_grammar::{LpCause, Section, Stage};
 use lp_rows::Sense;
+use lp_tokens::Token;
+use lp_tokens::value::whole_number;
+use outcomes::Memory;
 use std::alloc::Global;
 
 /// Whether the section is an objective.

@@ -24,15 +24,14 @@ ghost use Rattle.lp_grammar.specs.Reading.{with_number as with_one_number, colon
 ghost use Rattle.lp_tokens.specs.Views.{piece};
 ghost use Rattle.lp_reader.specs.Taken.{taken_of, Leaves, IsFound};
 
-use lp_tokens::Names;
 use crate::objective::Objective;
 use crate::terms::TermMap;
-use lp_tokens::Token;
-use lp_tokens::value::{signed_one, signed_or_one, whole_number};
 use fractions::Frac;
-use outcomes::Memory;
 use lp_grammar::{Column, LpCause, Pending, Stage};
 use lp_rows::{Row, Sense};
+use lp_tokens::value::{signed_one, signed_or_one, whole_number};
+use lp_tokens::{Names, Token};
+use outcomes::Memory;
 use std::alloc::Global;
 
 /// What the items so far gave.

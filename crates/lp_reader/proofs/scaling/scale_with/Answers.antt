@@ -1,8 +1,8 @@
-use Rattle.std.proofs.Common.{◌≡◌, ℕ, ◌*◌, ◌/◌, ◌<◌, ◌≤◌, ◌^◌, ◌⊎◌, inl, inr, true, false, refl, rules, arith}
+use Rattle.std.proofs.Common.{subst, sym, suc, zero, ◌≡◌, ℕ, ◌*◌, ◌/◌, ◌<◌, ◌≤◌, ◌^◌, ◌⊎◌, inl, inr, true, false, refl, rules, arith}
 use Rattle.std.specs.Prelude.{nat_lt}
 use Rattle.std.proofs.lemmas.Bool.Decides.{nat_tests}
 use Rattle.text_grammar.proofs.Bools.{told}
-use Rattle.lp_tokens.proofs.Lowest.{divisor_some}
+use Rattle.lp_tokens.proofs.Lowest.{divisor_some, under_some}
 use Rattle.lp_reader.proofs.Scaled.{scale_kept, scale_past}
 use Rattle.lp_reader.proofs.scaling.scale_with.Goals as goal
 
@@ -38,3 +38,16 @@ pub returns-else-multiple-gt-MOST_SCALE-clause-scale :
 returns-else-multiple-gt-MOST_SCALE-clause-scale c =
     let e : c.in-Some.multiple ≡ c.args.scale * (c.args.denominator / c.gcd_of_magnitudes-common.result) = search rules in
     scale_kept c.args.scale c.args.denominator c.gcd_of_magnitudes-common.result c.in-Some.multiple c.gcd_of_magnitudes-common.ensures e c.if-multiple-gt-MOST_SCALE.false
+
+both_some : (a b : ℕ) → 0 < a → 0 < b → 0 < a * b
+both_some (suc a) (suc b) p q = omega arith
+both_some zero b p q = absurd (omega (arith, p))
+both_some (suc a) zero p q = absurd (omega (arith, q))
+
+pub returns-else-multiple-gt-MOST_SCALE-clause-some :
+    goal.returns-else-multiple-gt-MOST_SCALE-clause-some
+returns-else-multiple-gt-MOST_SCALE-clause-some c =
+    let e : c.in-Some.multiple ≡ c.args.scale * (c.args.denominator / c.gcd_of_magnitudes-common.result) = search rules in
+    subst (λ (n : ℕ). 0 < n) (sym e)
+    (both_some c.args.scale (c.args.denominator / c.gcd_of_magnitudes-common.result) c.requires.some_scale
+    (under_some c.args.scale c.args.denominator c.gcd_of_magnitudes-common.result c.requires.some c.gcd_of_magnitudes-common.ensures))
