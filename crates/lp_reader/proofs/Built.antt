@@ -1,5 +1,5 @@
 -- The program that is built of what was taken.
-use Rattle.std.proofs.Common.{ℤ, ◌≡◌, ◌∙◌, ap, sym, subst, ℕ, ◌+◌, ◌≤◌, Bool, true, false, if◌then◌else◌, List, ◌++◌, length, map, Option, Some, None, refl, arith}
+use Rattle.std.proofs.Common.{ℤ, ◌≡◌, ◌∙◌, ap, sym, subst, ℕ, true, false, if◌then◌else◌, List, length, map, Some, None, arith}
 use Rattle.std.proofs.lemmas.Bool.{cond-true, cond-false}
 use Rattle.std.proofs.lemmas.List.{length-map}
 use Rattle.lp_rows.specs.Rows.{RowValue}

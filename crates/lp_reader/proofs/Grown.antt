@@ -1,8 +1,8 @@
 -- Columns and rows that a builder takes or refuses.
-use Rattle.std.proofs.Common.{◌≡◌, ℕ, suc, ◌+◌, ◌^◌, ◌<◌, ◌≤◌, ℤ, Bool, true, false, ◌&&◌, ◌||◌, not, if◌then◌else◌, List, [], ◌∷◌, ◌++◌, length, Option, Some, None, Result, Ok, Err, ◌⊎◌, inl, inr, refl, ap, sym, subst, ◌∙◌, arith, append-nil, append_assoc, length-append, get_or, drop}
+use Rattle.std.proofs.Common.{◌≡◌, ℕ, suc, ◌+◌, ◌^◌, ◌<◌, ◌≤◌, ℤ, Bool, true, false, ◌&&◌, ◌||◌, not, List, [], ◌∷◌, ◌++◌, length, Option, Some, None, Result, Ok, Err, ◌⊎◌, inl, inr, refl, ap, sym, subst, ◌∙◌, arith, append-nil, append_assoc, get_or, drop}
 use Rattle.std.specs.Prelude.{unsigned_abs, nat_le, nat_lt, nat_eq}
 use Rattle.std.specs.List.{list_all}
-use Rattle.std.proofs.lemmas.Bool.{cond-true, cond-false}
+use Rattle.std.proofs.lemmas.Bool.{cond-false}
 use Rattle.std.proofs.lemmas.Bool.Decides.{nat_tests}
 use Rattle.lp_rows.specs.declared.columns.Col.{Col}
 use Rattle.lp_rows.specs.declared.columns.Sign.{Sign}
@@ -16,8 +16,7 @@ use Rattle.text_grammar.proofs.Bools.{both, and_true, told}
 use Rattle.milps.specs.declared.builder.MilpError.{MilpError}
 use Rattle.milps.specs.declared.builder.MilpError.TheVariants as error
 use Rattle.milps.specs.Building.{width_of, height_of, bounds_of, width, bounds_height, rows_height, height, refusal_of_col, col_outcome, refusal_of_row, row_outcome, refusal_of_goal, goal_outcome, are_summable}
-use Rattle.milps.specs.Milps.{MilpValue, add_term, gathered_among, gathered, without_zeros, normal_terms, normal_row}
-use Rattle.milps.specs.Sizes.{are_at_most}
+use Rattle.milps.specs.Milps.{MilpValue, add_term, gathered_among, without_zeros, normal_terms}
 use Rattle.milps.proofs.Lists.{drop_level}
 use Rattle.lp_grammar.specs.Programs.{AreStored, IsStoredRow}
 use Rattle.lp_grammar.specs.Reading.{is_within}

@@ -1,5 +1,5 @@
 -- What is read is what the text spells, or its first bad line.
-use Rattle.std.proofs.Common.{◌≡◌, ◌∙◌, ap, sym, ℕ, ◌+◌, Bool, true, false, not, ◌||◌, List, length, Result, Ok, Err, Option, Some, None, if◌then◌else◌, ◌⊎◌, refl, subst, inl, inr, IfOk, IfErr}
+use Rattle.std.proofs.Common.{◌≡◌, ◌∙◌, ap, sym, ℕ, ◌+◌, Bool, true, false, not, ◌||◌, List, length, Result, Ok, Err, Some, None, if◌then◌else◌, ◌⊎◌, refl, subst, inl, inr, IfOk, IfErr}
 use Rattle.std.proofs.lemmas.Bool.{cond-true, cond-false}
 use Rattle.text_grammar.proofs.Bools.{told}
 use Rattle.outcomes.specs.Calls.{OrMemory}

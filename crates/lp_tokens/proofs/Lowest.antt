@@ -1,9 +1,9 @@
 -- Quotients in lowest terms: one for each value, with a denominator that grows as digits come before.
-use Rattle.std.proofs.Common.{◌≡◌, ◌≢◌, ℕ, zero, suc, ◌<◌, ◌≤◌, ◌+◌, ◌*◌, ◌/◌, ◌%◌, pos, refl, ap, sym, subst, arith}
+use Rattle.std.proofs.Common.{◌≡◌, ◌≢◌, ℕ, zero, suc, ◌<◌, ◌≤◌, ◌+◌, ◌*◌, ◌/◌, pos, ap, sym, subst, arith}
 use Rattle.std.specs.Prelude.{unsigned_abs}
 use Rattle.std.specs.Int.{IsGcd, ◌∣◌}
-use Rattle.std.proofs.Math.Nat.{div-mul_cancel, mod-lt, pos_of_dvd_of_pos, le_of_mul-le-mul_left, dvd-add_iff_right, dvd-mul_left}
-use Rattle.std.proofs.lemmas.Nat.Gcd.{IsGcd-from_zero, IsGcd-from_mod, IsGcd-swap, same_from_IsGcd, le_of_dvd}
+use Rattle.std.proofs.Math.Nat.{div-mul_cancel, pos_of_dvd_of_pos, le_of_mul-le-mul_left, dvd-add_iff_right, dvd-mul_left}
+use Rattle.std.proofs.lemmas.Nat.Gcd.{IsGcd-swap, same_from_IsGcd, le_of_dvd}
 use Rattle.std.proofs.lemmas.Int.{ints}
 use Rattle.fractions.specs.Fraction.{Fraction, IsReduced}
 use Rattle.fractions.proofs.Reduction.{reduced_over, reduced_same}

@@ -1,17 +1,13 @@
 -- What a quotient's parts make.
-use Rattle.std.proofs.Common.{suc, zero, refl, subst, neg_ℤ, ◌≡◌, ℕ, ◌≤◌, ◌/◌, ℤ, pos, negsuc, ◌<ℤ◌, ◌≤ℤ◌, Bool, true, false, ◌&&◌, ◌⊎◌, inl, inr, Some, None, ap, sym, ◌∙◌, arith}
-use Rattle.std.specs.Prelude.{unsigned_abs, FitsSigned}
-use Rattle.std.specs.Int.{IsGcd, w128}
-use Rattle.std.proofs.lemmas.Bool.{false≢true, cond-true, cond-false}
-use Rattle.std.proofs.lemmas.Bool.Decides.{nat_tests}
+use Rattle.std.proofs.Common.{suc, zero, refl, subst, neg_ℤ, ◌≡◌, ℕ, ℤ, pos, negsuc, ◌<ℤ◌, ◌≤ℤ◌, Bool, true, false, ◌&&◌, Some, None, ap, sym, ◌∙◌, arith}
+use Rattle.std.specs.Prelude.{unsigned_abs}
+use Rattle.std.specs.Int.{IsGcd}
+use Rattle.std.proofs.lemmas.Bool.{cond-true, cond-false}
 use Rattle.std.proofs.lemmas.Int.{ints}
-use Rattle.std.proofs.Math.Nat.{div-le_self}
-use Rattle.fractions.specs.Fraction.{Fraction, IsLowest, IsReduced, fraction_fits}
+use Rattle.fractions.specs.Fraction.{Fraction, IsLowest, IsReduced}
 use Rattle.fractions.proofs.Reduction.{reduced_same}
-use Rattle.fractions.specs.Width.{fits}
-use Rattle.fractions.proofs.Widths.{fits_from_range}
 use Rattle.lp_rows.specs.Rows.{is_storable}
-use Rattle.lp_grammar.specs.Scaling.{divisor_of, lowest}
+use Rattle.lp_grammar.specs.Scaling.{lowest}
 use Rattle.lp_grammar.specs.Taking.{if_small}
 use Rattle.lp_tokens.proofs.Lowest.{lowest_only}
 

@@ -5,8 +5,8 @@ ghost use Rattle.std.specs.Option.{MatchOption};
 ghost use Rattle.lp_grammar.specs.Reading.{is_empty};
 ghost use Rattle.lp_grammar.specs.Taking.{place_from};
 
-use outcomes::Memory;
 use indexmap::IndexSet;
+use outcomes::Memory;
 use std::alloc::Global;
 use std::marker::Model;
 

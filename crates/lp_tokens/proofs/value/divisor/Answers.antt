@@ -1,4 +1,4 @@
-use Rattle.std.proofs.Common.{ℕ, ◌<◌, ◌≤◌, subst, arith}
+use Rattle.std.proofs.Common.{ℕ, ◌≤◌, subst, arith}
 use Rattle.std.specs.Int.{IsGcd, ◌∣◌}
 use Rattle.std.proofs.lemmas.Nat.Gcd.{le_of_dvd}
 use Rattle.lp_tokens.proofs.value.divisor.Goals as goal

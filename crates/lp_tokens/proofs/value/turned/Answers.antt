@@ -1,7 +1,6 @@
-use Rattle.std.proofs.Common.{◌≡◌, ◌∙◌, ap, ℤ, neg_ℤ}
+use Rattle.std.proofs.Common.{◌∙◌, ap, neg_ℤ}
 use Rattle.std.proofs.lemmas.Int.{to_z-of_z}
 use Rattle.std.specs.Int.{w128}
-use Rattle.fractions.specs.Fraction.{Fraction}
 use Rattle.lp_tokens.proofs.Made.{turned_part}
 use Rattle.lp_tokens.proofs.value.turned.Goals as goal
 

@@ -1,7 +1,7 @@
-use Rattle.std.proofs.Common.{◌≡◌, ◌∙◌, ap, sym, true, false, length, List}
+use Rattle.std.proofs.Common.{◌≡◌, ◌∙◌, ap, sym, false, List}
 use Rattle.milps.specs.Milps.{MilpValue}
 use Rattle.lp_rows.specs.Rows.{RowValue}
-use Rattle.lp_grammar.specs.Reading.{bound_rows, milp_of, is_within}
+use Rattle.lp_grammar.specs.Reading.{milp_of, is_within}
 use Rattle.lp_grammar.specs.Taking.{Taken}
 use Rattle.lp_reader.specs.Grown.{with_rows}
 use Rattle.lp_reader.specs.Taken.{taken_of}
