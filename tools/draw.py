@@ -25,7 +25,11 @@ USAGE = "usage: gdp draw MODEL [ANSWER or POINT]\n       gdp draw-log LOG [MODEL
 
 
 class Refused(Exception):
-    """The status and the line that ends the run."""
+    """The status that ends the run, and what is told."""
+
+    def __init__(self, status: int, told: str) -> None:
+        super().__init__(status, told)
+        self.status, self.told = status, told
 
 
 def asked(*words: str) -> tuple[int, str]:
@@ -96,14 +100,16 @@ def main(words: list[str]) -> int:
                 text = draw_search(log, model)
             case _:
                 raise Refused(7, USAGE)
-        sys.stdout.write(text)
-        sys.stdout.flush()
     except Refused as refused:
-        sys.stderr.write(refused.args[1])
-        return refused.args[0]
+        sys.stderr.buffer.write(os.fsencode(refused.told))
+        return refused.status
+    try:
+        sys.stdout.buffer.write(text.encode())
+        sys.stdout.buffer.flush()
     except OSError:
         sys.stderr.write("write fault\n")
-        return 6
+        sys.stderr.flush()
+        os._exit(6)
     return 0
 
 

@@ -190,7 +190,7 @@ class Plan:
         if depth >= self.fold.depth and block.choices:
             return Stack([*pieces, Text([f"… {several(count(block)[1], 'choice')}"], style="faint")], 6)
         shown = block.choices[: self.fold.choices]
-        boxes = [self.choice(choice, in_force, depth) for choice in shown]
+        boxes: list[Piece] = [self.choice(choice, in_force, depth) for choice in shown]
         pieces += [Flow(boxes)] if self.fold.is_brief and boxes else boxes
         if len(shown) < len(block.choices):
             pieces.append(Text(f"… {several(len(block.choices) - len(shown), 'more choice')}".split(" "), style="faint"))
