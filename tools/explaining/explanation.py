@@ -15,6 +15,8 @@ from .program import Copies, Said, ask as ask_program, refusal
 
 LIMIT = 8_388_608
 MOST_ANSWER = 64 * LIMIT
+# The place is looked for in lines of so many bytes at most, and in LP texts of so many.
+MOST_LINE, MOST_LP = 200_000, 2_000_000
 USAGE = "usage: gdp explain FILE [MODEL]\nFILE is a model, an LP text, or a point or an answer, which is read with its MODEL.\n"
 Ask = Callable[[list[str]], Said]
 
@@ -146,7 +148,9 @@ def described(kind: str, source: Source, model: Source | None, number: int, caus
     lines = source.text.split(b"\n") if kind == "answer" else lines_of(source.text)
     line = lines[number - 1] if number <= len(lines) else b""
     context = models.context_of(lines[: number - 1] if kind == "model" else lines_of(model.text) if model else [])
-    found = place_of(kind, source, lines, number, cause, context) or Finding(len(line) - len(line.lstrip()), "this line")
+    is_long = len(line) > MOST_LINE or kind == "lp" and len(source.text) > MOST_LP
+    found = None if is_long else place_of(kind, source, lines, number, cause, context)
+    found = found or Finding(len(line) - len(line.lstrip()), "a line, or a text, too long to look for the place in it" if is_long else "this line")
     slip = slips.slip_at(kind, found.what, line if kind == "answer" else bare_of(kind, line), found.place)
     candidates = [*([slip[1]] if slip and slip[1] else []), *plain(kind, found.what, bare_of(kind, line), context)]
     written = next((one for one in candidates if is_read(one, source, number, bare_of(kind, line), reads, copies)), "")

@@ -1,19 +1,22 @@
 """Tells by its first word, or else by its name, what a text is."""
 
+import re
+
 from .lines import first_word
 
 STARTS = {b"gdp": "model", b"gdp-point": "point", b"gdp-answer": "answer", b"gdp-log": "log", b"gdp-lp": "log"}
 ENDS = {".gdp": "model", ".point": "point", ".answer": "answer", ".lp": "lp", ".log": "log"}
-LP_WORDS = frozenset(b"minimize minimum min maximize maximum max minimise maximise".split())
+LP_START = re.compile(rb"(?i)\s*(?:minimi[sz]e|minimum|min|maximi[sz]e|maximum|max)\b")
+MODEL_LINE = re.compile(rb"^[ \t]*(?:var|row|boolean|disjunction)[ \t]", re.MULTILINE)
 
 
 def kind_of(text: bytes, name: str, has_model: bool) -> str:
     """`model`, `point`, `answer`, `lp` or `log`. What is read with a model is a point unless it is an answer."""
     by_start, by_end = STARTS.get(first_word(text)), next((kind for end, kind in ENDS.items() if name.endswith(end)), None)
     if has_model:
-        return "answer" if "answer" in (by_start, by_start or by_end) else "point"
+        return "answer" if (by_start or by_end) in ("answer", "log") else "point"
     if by_start:
         return by_start
-    first = text.lstrip()[:1]
-    is_lp = first == b"\\" or first_word(text).rstrip(b":").lower() in LP_WORDS
+    start = text[:100_000]
+    is_lp = (start.lstrip().startswith(b"\\") or LP_START.match(start)) and not MODEL_LINE.search(start)
     return by_end or ("lp" if is_lp else "model")

@@ -189,7 +189,7 @@ def sections_of(tokens: list[Token], lines: list[bytes]) -> list[Section]:
     while at < len(tokens):
         kind, count = section_at(tokens, at) if sections[-1].kind != "end" else ("", 0)
         if kind:
-            sections[-1].end = tokens[at]
+            sections[-1].end = tokens[at]._replace(kind="end")
             sections.append(Section(kind, lines))
             at += count
         else:

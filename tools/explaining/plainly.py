@@ -20,14 +20,15 @@ def sums(line: str, variables: list[str]) -> str | None:
     """A row or a goal written again, a range as two rows; None where it isn't understood."""
     for old, new in SIGNS.items():
         line = line.replace(old, new)
-    found = re.fullmatch(rf"(\s*)(?:(row)\s+(?:{NAME}\s*:\s*)?|(?i:(min|max|minimi[sz]e|maximi[sz]e|minimum|maximum))(?:\s*:|\s)\s*)([^;]*?)[;,.\s]*", line)
+    found = re.fullmatch(rf"(\s*)(?:(row)\s+(?:({NAME})\s*:\s*)?|(?i:(min|max|minimi[sz]e|maximi[sz]e|minimum|maximum))(?:\s*:|\s)\s*)([^;]*?)[;,.\s]*", line)
     if not found or len(line) > MOST_LENGTH:
         return None
-    indent, is_row, goal, body = found.groups()
+    indent, is_row, label, goal, body = found.groups()
     try:
         sides, relations = sides_of(body, set(variables))
         if is_row:
-            return "\n".join(f"{indent}row {one}" for one in rows(sides, relations))
+            comment = f"  # {label}" if label else ""
+            return "\n".join(f"{indent}row {one}{comment}" for one in rows(sides, relations))
         return f"{indent}{GOALS.get(goal.lower(), goal.lower())} {sum_text(sides[0], True)}" if not relations else None
     except TOO_MUCH:
         return None
