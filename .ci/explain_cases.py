@@ -12,6 +12,7 @@
 import os
 import pathlib
 import re
+import subprocess
 import sys
 import tempfile
 
@@ -97,8 +98,11 @@ def refused_rows(table):
         if case.status != 2 or not isinstance(case.err, bytes) or case.stdin or not plain or not case.files:
             continue
         command, *names = case.words
-        if command in ("test", "check"):
+        if command == "test":
             yield case, case.files, [names[1], names[0]], case.err
+        elif command == "check":
+            files = {names[0]: case.files[names[0]], "A.answer": case.files[names[1]]}
+            yield case, files, ["A.answer", names[0]], re.sub(rb"^%s(?=: )" % re.escape(names[1].encode()), b"A.answer", case.err)
         elif command == "lp":
             yield case, {"F.lp": case.files[names[-1]]}, ["F.lp"], case.err.replace(names[-1].encode(), b"F.lp", 1)
         else:
@@ -124,7 +128,7 @@ def table_differences(ask, table):
 def place_differences(files, rest, name, number):
     """What is wrong of the lines below the program's: they name file, line and column, show the line, and say what was met."""
     found = re.fullmatch(rb"(.*):([0-9]+):([0-9]+)", rest[0])
-    lines = files[name].split(b"\n")
+    lines = files.get(name, b"").split(b"\n")
     line = lines[number - 1] if number <= len(lines) else b""
     if not found or (os.fsdecode(found[1]), int(found[2])) != (name, number) or not 1 <= int(found[3]) <= len(line) + 1:
         return [f"the place {rest[0]!r:.100}"]
@@ -179,6 +183,14 @@ def manual_differences(ask):
     return wrong, count
 
 
+def page_differences(ask):
+    """Whether the manual's example is what is printed."""
+    text = "gdp 1\nvar feed real 0 100\nvar product real 0 80\n  row 2 feed - product < 10\n"
+    out = explained(ask, {"plan.gdp": text}, "plan.gdp")[1]
+    page = (ROOT / "docs" / "FORMATS.md").read_text()
+    return [] if f"```\n{out}```\n" in page else [f"the manual's example: {out!r}"]
+
+
 def shown_differences(ask):
     """Long lines are cut round the place, and what doesn't print is escaped."""
     rows = [
@@ -216,6 +228,15 @@ def word_differences(ask):
     return wrong
 
 
+def launched():
+    """What differs where the launcher is called with the word `explain`."""
+    with tempfile.TemporaryDirectory() as folder:
+        pathlib.Path(folder, "M.gdp").write_text(HEAD + "row x < 1\n")
+        ran = subprocess.run([str(ROOT / "gdp"), "explain", "M.gdp"], cwd=folder, stdin=subprocess.DEVNULL, capture_output=True, check=False)
+    is_right = ran.returncode == 2 and ran.stdout.startswith(b"M.gdp: line 7: Form\nM.gdp:7:7\n") and not ran.stderr
+    return [] if is_right else [f"status {ran.returncode}, output {ran.stdout!r:.200}, error {ran.stderr!r:.200}"]
+
+
 def reads_lp(ask):
     """Whether the program has the command `lp`."""
     return explained(ask, {"F.lp": LP_HEAD}, "F.lp")[0] != 7
@@ -231,7 +252,7 @@ def differences(table, path=None):
     by_table, rows = table_differences(ask, table)
     by_slip, count = slip_differences(ask)
     by_manual, told = manual_differences(ask)
-    wrong = [*by_table, *by_slip, *by_manual, *shown_differences(ask), *word_differences(ask)]
+    wrong = [*by_table, *by_slip, *by_manual, *page_differences(ask), *shown_differences(ask), *word_differences(ask)]
     said = f"{rows} refused texts explained, {told} of {len(MANUAL)} slips of the manual named, {count} slips of the explainer's own table"
     return [f"explain: {one}" for one in wrong], said
 

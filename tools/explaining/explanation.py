@@ -158,7 +158,7 @@ def described(kind: str, source: Source, model: Source | None, number: int, caus
     out = [f"{source.name}:{number}:{show.column(line, found.place)}", "", *(f"    {one}" for one in shown)]
     out += [f"    met:    {found.met}", f"    wanted: {either(found.wanted)}" if found.wanted else ""]
     for head, one in zip(["write:  ", *["        "] * 3], written.split("\n") if written else []):
-        out.append(f"    {head}{printable(one.rstrip())}")
+        out.append(f"    {head}{printable(one.strip())}")
     out.append(f"    since:  {slip[0].why if slip else CAUSES.get(cause, cause)}")
     return [one for at, one in enumerate(out) if one or at == 1]
 

@@ -1,4 +1,4 @@
-"""Tells by its first word, or else by its name, what a text is."""
+"""Tells by the end of its name, or else by its first words, what a text is."""
 
 import re
 
@@ -13,10 +13,9 @@ MODEL_LINE = re.compile(rb"^[ \t]*(?:var|row|boolean|disjunction)[ \t]", re.MULT
 def kind_of(text: bytes, name: str, has_model: bool) -> str:
     """`model`, `point`, `answer`, `lp` or `log`. What is read with a model is a point unless it is an answer."""
     by_start, by_end = STARTS.get(first_word(text)), next((kind for end, kind in ENDS.items() if name.endswith(end)), None)
+    kind = by_end or by_start
     if has_model:
-        return "answer" if (by_start or by_end) in ("answer", "log") else "point"
-    if by_start:
-        return by_start
+        return "answer" if kind in ("answer", "log") else "point"
     start = text[:100_000]
     is_lp = (start.lstrip().startswith(b"\\") or LP_START.match(start)) and not MODEL_LINE.search(start)
-    return by_end or ("lp" if is_lp else "model")
+    return kind or ("lp" if is_lp else "model")

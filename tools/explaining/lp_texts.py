@@ -129,7 +129,7 @@ class Section:
                     pass
                 has_number = self.peek().kind == "number" and bool(self.next())
                 if not has_number and self.peek().kind != "name":
-                    self.stop(["a term"] if is_first else ["a term", "a relation"], "first term" if is_first else "term")
+                    self.stop(["a term"] if is_first else ["a term", "a relation"], "open row" if self.is_over() else "first term" if is_first else "term")
                 self.term(seen, "after a coefficient")
             self.next()
             self.skip("+", "-")
