@@ -101,7 +101,7 @@ def refused_rows(table):
         if command == "test":
             yield case, case.files, [names[1], names[0]], case.err
         elif command == "check":
-            files = {names[0]: case.files[names[0]], "A.answer": case.files[names[1]]}
+            files = {name if name == names[0] else "A.answer": text for name, text in case.files.items()}
             yield case, files, ["A.answer", names[0]], re.sub(rb"^%s(?=: )" % re.escape(names[1].encode()), b"A.answer", case.err)
         elif command == "lp":
             yield case, {"F.lp": case.files[names[-1]]}, ["F.lp"], case.err.replace(names[-1].encode(), b"F.lp", 1)
