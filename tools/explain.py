@@ -17,9 +17,10 @@ from explaining import explanation  # noqa: E402
 
 if __name__ == "__main__":
     status, out = explanation.explain(sys.argv[1:])
+    stream = sys.stderr if status == explanation.USAGE_STATUS else sys.stdout
     try:
-        sys.stdout.buffer.write(os.fsencode(out))
-        sys.stdout.buffer.flush()
+        stream.buffer.write(os.fsencode(out))
+        stream.buffer.flush()
     except OSError:
         os._exit(6)
     sys.exit(status)

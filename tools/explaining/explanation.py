@@ -17,6 +17,7 @@ LIMIT = 8_388_608
 MOST_ANSWER = 64 * LIMIT
 # The place is looked for in lines of so many bytes at most, and in LP texts of so many.
 MOST_LINE, MOST_LP = 200_000, 2_000_000
+USAGE_STATUS = 7
 USAGE = "usage: gdp explain FILE [MODEL]\nFILE is a model, an LP text, or a point or an answer, which is read with its MODEL.\n"
 Ask = Callable[[list[str]], Said]
 
@@ -40,6 +41,7 @@ STATUSES = {
     3: "the texts were read; a number of this test leaves 128 bits, so the program can't say whether it passes",
     4: "the texts were read; the model can't be rewritten for this route",
     8: "memory ran out",
+    10: "without it there is no verdict",
     9: "a word of the command line is no text of Unicode",
 }
 
@@ -80,7 +82,7 @@ def model_beside(name: str) -> str | None:
 def explain(words: list[str], ask: Ask = ask_program) -> tuple[int, str]:
     """The exit status, and what is printed."""
     if not 1 <= len(words) <= 2:
-        return 7, USAGE
+        return USAGE_STATUS, USAGE
     with Copies() as copies:
         source = source_of(words[0], copies)
         kind = kind_of(source.text, source.name, len(words) == 2)
@@ -90,7 +92,7 @@ def explain(words: list[str], ask: Ask = ask_program) -> tuple[int, str]:
             return told(kind, source, None, copies, ask, "")
         model = words[1] if len(words) == 2 else None if source.fault else model_beside(source.name)
         if model is None and not source.fault:
-            return 7, f"{source.name}: {'a point' if kind == 'point' else 'an answer'} is read with its model: gdp explain {source.name} MODEL\n"
+            return USAGE_STATUS, f"{source.name}: {'a point' if kind == 'point' else 'an answer'} is read with its model: gdp explain {source.name} MODEL\n"
         note = f"(with the model {model})" if len(words) == 1 and model else ""
         return told(kind, source, source_of(model or source.name, copies), copies, ask, note)
 

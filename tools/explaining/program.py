@@ -8,7 +8,6 @@ import subprocess
 import tempfile
 
 ROOT = pathlib.Path(__file__).resolve().parent.parent.parent
-SECONDS = 600
 
 
 @dataclasses.dataclass
@@ -27,14 +26,11 @@ def path() -> str:
 def ask(words: list[str]) -> Said:
     """Runs the program on these words. Texts that it writes are not kept."""
     writes_line = words[0] in ("test", "check")
-    ran = subprocess.run(
-        [path(), *words],
-        stdin=subprocess.DEVNULL,
-        stdout=subprocess.PIPE if writes_line else subprocess.DEVNULL,
-        stderr=subprocess.PIPE,
-        timeout=SECONDS,
-        check=False,
-    )
+    out = subprocess.PIPE if writes_line else subprocess.DEVNULL
+    try:
+        ran = subprocess.run([path(), *words], stdin=subprocess.DEVNULL, stdout=out, stderr=subprocess.PIPE, check=False)
+    except OSError as error:
+        return Said(10, f"the program {path()} can't be run: {error.strerror}".encode("utf-8", "surrogateescape"))
     line = ran.stderr if ran.stderr or not writes_line else ran.stdout
     return Said(ran.returncode, line.removesuffix(b"\n"))
 

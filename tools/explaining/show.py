@@ -4,8 +4,8 @@ import unicodedata
 
 from .finding import escaped
 
-# The columns that are shown before the place and after it.
-BEFORE, AFTER = 44, 36
+# The columns that are shown in all, and of these before the place.
+WHOLE, BEFORE = 96, 56
 
 
 def cell(character: str) -> str:
@@ -36,9 +36,10 @@ def fitting(cells: list[str], most: int) -> int:
 def window(line: bytes, place: int) -> tuple[str, str]:
     """The line, cut round the place where it is long, and below it the caret."""
     head = line[max(0, place - 4 * BEFORE) : place].decode("utf-8", "surrogateescape")
-    tail = line[place : place + 4 * AFTER].decode("utf-8", "surrogateescape")
+    tail = line[place : place + 4 * WHOLE].decode("utf-8", "surrogateescape")
     before, after = [cell(c) for c in head], [cell(c) for c in tail]
-    first, last = len(before) - fitting(before[::-1], BEFORE), fitting(after, AFTER)
-    is_cut_before, is_cut_after = first > 0 or place > 4 * BEFORE, last < len(after) or place + 4 * AFTER < len(line)
-    shown = ("..." if is_cut_before else "") + "".join(before[first:])
-    return shown + "".join(after[:last]) + ("..." if is_cut_after else ""), " " * width(shown) + "^"
+    first = len(before) - fitting(before[::-1], BEFORE)
+    shown = ("..." if first > 0 or place > 4 * BEFORE else "") + "".join(before[first:])
+    last = fitting(after, WHOLE - width(shown))
+    is_cut = last < len(after) or place + 4 * WHOLE < len(line)
+    return shown + "".join(after[:last]) + ("..." if is_cut else ""), " " * width(shown) + "^"
