@@ -261,7 +261,8 @@ class Plan:
             pieces.append(Text(self.verdict.split(" "), style="strong" if self.verdict[0] != FAILS else "wrong", indent=0))
         goal = self.model.goal.words() if self.model.sense else []
         if goal and self.point is not None:
-            goal = [*goal, "= " + told(self.model.goal.value(self.point.values))]
+            value = told(self.model.goal.value(self.point.values))
+            goal = [*goal, value.replace("≈", "≈ ") if "≈" in value else f"= {value}"]
         if goal:
             pieces.append(Text([self.model.sense, *goal], style="strong", indent=0, most=self.fold.lines))
         return pieces
