@@ -159,7 +159,8 @@ def wrong_refusals(gdp: str, folder: pathlib.Path) -> list[str]:
     model.write_bytes(model.read_bytes().replace(b"\n", b"\n# \xff\x00\x1b\xe2\x98\x83 a < b & c > d.\n", 1))
     drawn("draw", str(model))
     wrong = [f"{ours}: {run(DRAW, *ours)}" for ours, theirs in calls if run(DRAW, *ours) != (*run(gdp, *theirs)[:1], "", run(gdp, *theirs)[2])]
-    wrong += [] if run(str(ROOT / "gdp"), "draw") == run(DRAW, "draw") else ["the launcher doesn't hand `draw` on"]
+    if gdp == str(ROOT / "gdp") and run(gdp, "draw") != run(DRAW, "draw"):
+        wrong.append("the launcher doesn't hand `draw` on")
     return wrong + [f"{words}: not 7" for words in (["draw"], ["draw-log"], ["draw", "a", "b", "c"]) if run(DRAW, *words)[0] != 7]
 
 
