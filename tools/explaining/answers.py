@@ -8,7 +8,7 @@ from .models import Context
 WHOLE, FRACTION = r"(?:0|-?[1-9][0-9]*)", r"(?:0|-?[1-9][0-9]*(?:/[1-9][0-9]*)?)"
 NAME = r"[A-Za-z_][A-Za-z0-9_.]*"
 # The words of a line, and what each is followed by: what it is called, and its pattern.
-SHAPES = {
+SHAPES: dict[str, list[tuple[str, str]]] = {
     "route": [("`bigm`, `hull`, `hybrid` or `logic`", "bigm|hull|hybrid|logic")],
     "best": [("a value, `p` or `p/q` in lowest terms", FRACTION)],
     "empty": [],

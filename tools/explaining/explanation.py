@@ -99,7 +99,8 @@ def explain(words: list[str], ask: Ask = ask_program) -> tuple[int, str]:
 
 def command(kind: str, path: str, model: Source | None) -> list[str]:
     """The words by which the program reads the text."""
-    return {"model": ["format", path], "lp": ["lp", "1", path], "point": ["test", model and model.path, path], "answer": ["check", model and model.path, path]}[kind]
+    beside = model.path if model else ""
+    return {"model": ["format", path], "lp": ["lp", "1", path], "point": ["test", beside, path], "answer": ["check", beside, path]}[kind]
 
 
 def told(kind: str, source: Source, model: Source | None, copies: Copies, ask: Ask, note: str) -> tuple[int, str]:

@@ -39,7 +39,8 @@ def tokens_of(lines: list[bytes], last: int) -> list[Token]:
         if number > last and tokens and tokens[-1].line > last:
             break
         text = line.partition(b"\\")[0].decode("latin-1")
-        tokens += [Token(number, one.start(one.lastindex), KINDS[one.lastindex - 1], one[one.lastindex]) for one in TOKEN.finditer(text)]
+        found = [(one, one.lastindex or 1) for one in TOKEN.finditer(text)]
+        tokens += [Token(number, one.start(group), KINDS[group - 1], one[group]) for one, group in found]
     return tokens
 
 
@@ -64,7 +65,8 @@ class Section:
     """Goes along the tokens of a section. Where they end the next token is the section word that ends them, or the text's end."""
 
     def __init__(self, kind: str, lines: list[bytes]):
-        self.kind, self.lines, self.tokens, self.at = kind, lines, [], 0
+        self.kind, self.lines, self.at = kind, lines, 0
+        self.tokens: list[Token] = []
         self.end = Token(len(lines) + 1, 0, "end", "")
 
     def peek(self, ahead: int = 0) -> Token:
