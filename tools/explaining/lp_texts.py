@@ -89,7 +89,7 @@ class Section:
             met = character_at(self.lines[token.line - 1], token.place)
         else:
             met = quoted(token.text) if token.text else "the end of the text"
-        raise Stop(Placed(token.place, met, wanted, what, token.line))
+        raise Stop(Placed(token.place, met, wanted, "open " + self.kind if self.is_over() else what, token.line))
 
     def take(self, kind: str, texts: tuple[str, ...], wanted: list[str], what: str) -> Token:
         if self.peek().kind != kind or texts and self.peek().text not in texts:
@@ -131,7 +131,7 @@ class Section:
                     pass
                 has_number = self.peek().kind == "number" and bool(self.next())
                 if not has_number and self.peek().kind != "name":
-                    self.stop(["a term"] if is_first else ["a term", "a relation"], "open row" if self.is_over() else "first term" if is_first else "term")
+                    self.stop(["a term"] if is_first else ["a term", "a relation"], "first term" if is_first else "term")
                 self.term(seen, "after a coefficient")
             self.next()
             self.skip("+", "-")
