@@ -195,6 +195,7 @@ def shown_differences(ask):
     """Long lines are cut round the place, and what doesn't print is escaped."""
     rows = [
         ("a line of many terms", HEAD + "row " + "x + " * 3000 + "x ? 1", ["..."], 120),
+        ("a strict relation beside another slip", HEAD + "row x + 1 < 3", ["write:  row x <= 2\n", "numbers alone only on the right; and no relation is strict\n"], 200),
         ("a control character and a byte", HEAD.encode() + b"row x <= \x07\xc8 1 # \xff\x1b[0m", ["row x <= \\x07\\xc8 1 # \\xff\\x1b[0m"], 200),
         ("a tab", HEAD + "row\tx\t< 1", ["    row x < 1\n          ^\n"], 200),
         ("a wide character before the place", "\u70b9 gdp 1\n", ["\u70b9 gdp 1\n    ^\n"], 200),
