@@ -18,7 +18,7 @@ MOST_ANSWER = 64 * LIMIT
 MOST_LINE, MOST_LP = 200_000, 2_000_000
 USAGE_STATUS = 7
 USAGE = "usage: gdp explain FILE [MODEL]\nFILE is a model, an LP text, or a point or an answer, which is read with its MODEL.\n"
-STRICT = re.compile(rb"(?<![-<=>])[<>](?![<=>])")
+STRICT = re.compile(rb"(?<![-<=>])[<>](?!\s*[<=>])")
 Ask = Callable[[list[str]], Said]
 
 CAUSES = {
