@@ -1,7 +1,7 @@
 #!/usr/bin/env python3
 """Runs what the pages show: `documents.py [--gdp PROGRAM] [--write] [PAGE..]`, by default all pages of PAGES.
 
-Each page has a new folder of its own, with `gdp` on the PATH, and its blocks are taken from the top:
+Each page has a new folder of its own, with `gdp` on the PATH and the Python module at hand, and its blocks are taken from the top:
 
 - A block `sh` whose lines begin with `$ ` is a talk with a shell. Each command is run by bash, and the lines below it have to be what
   it writes, output and errors as they come. `sh if glpsol` is run only where there is a program `glpsol`.
@@ -24,7 +24,7 @@ import tempfile
 from collections.abc import Callable, Iterator
 
 ROOT = pathlib.Path(__file__).resolve().parent.parent
-PAGES = ("docs/GUIDE.md",)
+PAGES = ("docs/GUIDE.md", "docs/PYTHON.md")
 FENCE = re.compile(r"```(.*)")
 PICTURE = re.compile(r"!\[[^]]*\]\(([^)]+\.svg)\)")
 SECONDS = 60
@@ -54,7 +54,13 @@ class Run:
         commands = folder / "bin"
         commands.mkdir()
         (commands / "gdp").symlink_to(program)
-        self.environment = os.environ | {"PATH": f"{commands}{os.pathsep}{os.environ['PATH']}", "LC_ALL": "C.UTF-8"}
+        self.environment = os.environ | {
+            "PATH": f"{commands}{os.pathsep}{os.environ['PATH']}",
+            "LC_ALL": "C.UTF-8",
+            "DATEMOUND_GDP": str(program),
+            "PYTHONPATH": str(ROOT / "integrations" / "python"),
+            "PYTHONDONTWRITEBYTECODE": "1",
+        }
 
     def told(self, words: list[str]) -> str:
         """What a command writes in the folder, output and errors together."""
