@@ -148,10 +148,17 @@ class Result:
             raise ModelError(f"there is no certificate to check: {self.stop}")
         return checked(self.model_text, self.certificate)
 
+    def __getitem__(self, key: str | Var | Atom) -> Fraction | bool:
+        """The value of a variable, or whether a Boolean or a disjunct is true."""
+        name = key if isinstance(key, str) else key.name
+        return self.truths[name] if name in self.truths else self.values[name]
+
     def __str__(self) -> str:
-        """The claim, the values, and the Booleans and disjuncts that are true, a line each."""
-        lines = [f"best {self.objective}" if self.status == "best" else f"gave up: {self.stop}" if self.stop else self.status]
-        lines += [f"  {name} = {value}" for name, value in self.values.items()]
+        """The claim, the values, and the Booleans and disjuncts that are true, a line each; a fraction also as a decimal."""
+        lines = [f"gave up: {self.stop}" if self.stop else self.status]
+        if self.objective is not None:
+            lines = [f"best {_shown(self.objective)}"]
+        lines += [f"  {name} = {_shown(value)}" for name, value in self.values.items()]
         lines += [f"  {name}" for name, is_true in self.truths.items() if is_true]
         lines += [f"  step {name} = {value}" for name, value in self.step.items() if value]
         return "\n".join(lines)
@@ -211,6 +218,14 @@ def point_text(text: Text, point: Result | Point) -> str:
     lines += [f"val {name} {values[name] * over}" for name in text.variables]
     lines += [f"on {name}" for name in text.truths if name in truths]
     return "".join(f"{line}\n" for line in [*lines, "end"])
+
+
+def _shown(number: Fraction) -> str:
+    """A number, and in parentheses, where it is a fraction, its decimal, which is said where it is rounded."""
+    if number.denominator == 1:
+        return str(number)
+    decimal = format(float(number), ".8g")
+    return f"{number} ({'' if Fraction(decimal) == number else 'about '}{decimal})"
 
 
 def _name_in(text: Text, key: object) -> str:

@@ -41,6 +41,22 @@ class Proposition:
     def __invert__(self) -> Connective:
         return lnot(self)
 
+    def land(self, *others: Propositions) -> Connective:
+        """`p.land(q)` is `land(p, q)`, and so with the other connectives that Pyomo has as methods."""
+        return land(self, *others)
+
+    def lor(self, *others: Propositions) -> Connective:
+        return lor(self, *others)
+
+    def implies(self, conclusion: Proposition) -> Connective:
+        return implies(self, conclusion)
+
+    def equivalent_to(self, other: Proposition) -> Connective:
+        return equivalent(self, other)
+
+    def xor(self, other: Proposition) -> Connective:
+        return xor(self, other)
+
     def __bool__(self) -> NoReturn:
         raise ModelError(
             f"{self} is used as a truth value of Python, but is known only once the model is solved: write land(a, b), lor(a, b) and lnot(a) "

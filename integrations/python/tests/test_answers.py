@@ -26,7 +26,7 @@ class Solved(unittest.TestCase):
         self.assertIsNone(result.stop)
         self.assertIsNone(result.log)
         self.assertIn("tree\ntruth 0\nbounded 5 0:6 1:1\n", result.certificate)
-        self.assertEqual(str(result), "best 139/2\n  power = 75\n  cost = 139/2\n  large_customer")
+        self.assertEqual(str(result), "best 139/2 (69.5)\n  power = 75\n  cost = 139/2 (69.5)\n  large_customer")
         for number in (result.objective, *result.values.values()):
             self.assertIs(type(number), Fraction)
         self.assertTrue(result.check())
@@ -38,8 +38,17 @@ class Solved(unittest.TestCase):
         model.maximize(x)
         result = model.solve()
         self.assertEqual((result.values[x], result.values["x"], result.truths[a]), (3, 3, True))
-        with self.assertRaises(KeyError):
-            result.values["y"]
+        self.assertEqual((result[x], result["x"], result[a], result["a"]), (3, 3, True, True))
+        for ask in (lambda: result.values["y"], lambda: result["y"], lambda: result[Var("y")]):
+            with self.assertRaises(KeyError):
+                ask()
+
+    def test_shown_with_decimals(self):
+        x, y = Var("x", 0, "1/3"), Var("y", 0, "1.5")
+        model = Model()
+        model.declare(x, y)
+        model.maximize(x + y)
+        self.assertEqual(str(model.solve()), "best 11/6 (about 1.8333333)\n  x = 1/3 (about 0.33333333)\n  y = 3/2 (1.5)")
 
     def test_empty(self):
         x = Var("x", 0, 3)

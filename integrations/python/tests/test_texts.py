@@ -73,6 +73,15 @@ class Texts(unittest.TestCase):
         )
         self.assert_formatted(model)
 
+    def test_added_by_the_operator(self):
+        x, a = Var("x"), Disjunct("a")
+        model = Model()
+        model += x <= 3
+        model += Disjunction(a), [x >= 0]
+        a += x <= 2
+        self.assertEqual(str(model), Model(x <= 3, Disjunction(Disjunct("a", x <= 2)), x >= 0).text())
+        self.assertEqual(repr(model), "<Model: rows 2, disjunctions 1, logic 0 outside all disjuncts>")
+
     def test_used_in_two_models(self):
         x, a = Var("x", 0, 1), Disjunct("a")
         row = x <= 3
