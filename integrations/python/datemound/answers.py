@@ -273,4 +273,5 @@ def _answered(text: Text, route: str, answer: str) -> Result:
             break
     truths = {name: name in on for name in text.truths}
     objective = Fraction(value) if status == "best" else None
-    return Result(status, route, answer, text, objective, ByName(values, ""), ByName(truths, ""), ByName(steps, "" if steps else "only an endless result has steps"))
+    ray = ByName(steps, "" if steps else "only an endless result has steps")
+    return Result(status, route, answer, text, objective, ByName(values, ""), ByName(truths, ""), ray)

@@ -203,7 +203,7 @@ class Refused(unittest.TestCase):
         x, y = Var("x"), Var("y")
         model = Model(x <= 1)
         model.add(x + y <= 10**15 + 1)  # too great
-        self.assert_refused(model.solve, "Number", model.rows[1], line_of("too great"), "gdp refuses `row 1 x + 1 y <= 1000000000000001`", "exceeds 10^15")
+        self.assert_refused(model.solve, "Number", model.rows[1], line_of("too great"), "`row 1 x + 1 y <= 1000000000000001`", "exceeds 10^15")
         for call in (lambda: model.test({x: 1, y: 1}), model.compile, lambda: model.check("")):
             with self.assertRaises(RefusedError):
                 call()

@@ -42,7 +42,7 @@ class WithScripts(unittest.TestCase):
 
     def start(self, program, code, **more):
         """A Python of its own that runs the code, with the script as its program and a folder for temporary files of its own."""
-        around = {**os.environ, "DATEMOUND_GDP": program, "PYTHONPATH": str(FOLDER), "TMPDIR": str(self.folder / "tmp"), "PYTHONDONTWRITEBYTECODE": "1"}
+        around = {**os.environ, "DATEMOUND_GDP": program, "PYTHONPATH": str(FOLDER), "TMPDIR": str(self.folder / "tmp")}
         return subprocess.Popen([sys.executable, "-c", PLAN + code], env=around, stdin=subprocess.DEVNULL, **more)
 
     def assert_no_file_left(self):
