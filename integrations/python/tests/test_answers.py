@@ -251,7 +251,8 @@ class Refused(unittest.TestCase):
         household = Disjunct("household", cost >= "1.2" * power)  # needs it
         model = Model(Disjunction(household))
         line = line_of("needs it")
-        self.assert_refused(lambda: model.solve("bigm"), "no bound", household.rows[0], line, "bigm: no bound for the variable power", "route 'logic'")
+        words = ("bigm: no bound for the variable power", "route 'logic'")
+        self.assert_refused(lambda: model.solve("bigm"), "no bound", household.rows[0], line, *words)
         self.assert_refused(lambda: model.compile("bigm"), "no bound", household.rows[0], line, "give it a low and a high bound")
         self.assert_refused(lambda: model.solve("hull"), "no bound", model.disjunctions[0], line + 1)
 
