@@ -6,5 +6,6 @@ pub mod Kept
 pub mod KeptColumns
 pub mod KeptTerms
 pub mod Lined
+pub mod Ready
 pub mod Scaled
 pub mod Told

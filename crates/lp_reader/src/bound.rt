@@ -60,14 +60,12 @@ fn bounded(rel: Rel, bound: Option<Frac>, column: Column) -> Column
 {
     match rel {
         Rel::AtMost => Column {
-            is_integer: column.is_integer,
-            low: column.low,
             high: bound,
+            ..column
         },
         Rel::AtLeast => Column {
-            is_integer: column.is_integer,
             low: bound,
-            high: column.high,
+            ..column
         },
         Rel::Equal => {
             let low = bound;

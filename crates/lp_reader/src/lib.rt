@@ -10,6 +10,7 @@
 
 pub mod bound;
 pub mod goal;
+pub mod laws;
 pub mod line;
 pub mod objective;
 pub mod program;
