@@ -1,12 +1,11 @@
 -- What holds of what was taken goes on with each item, and the program that a text spells is one.
-use Rattle.std.proofs.Common.{◌≤◌, ◌≡◌, ℕ, suc, ◌+◌, ◌<◌, Bool, true, false, ◌&&◌, ◌||◌, not, if◌then◌else◌, List, [], ◌∷◌, ◌++◌, length, Option, Some, None, Result, Ok, Err, refl, sym, subst, ◌∙◌, arith, length-append}
+use Rattle.std.proofs.Common.{◌≤◌, ◌≡◌, ℕ, suc, ◌+◌, ◌<◌, Bool, true, false, ◌&&◌, ◌||◌, not, if◌then◌else◌, List, [], ◌∷◌, ◌++◌, length, Option, Some, None, refl, sym, subst, ◌∙◌, arith, length-append}
 use Rattle.std.specs.Prelude.{nat_le, nat_lt}
 use Rattle.std.specs.Str.{bytes_eq}
 use Rattle.fractions.specs.Fraction.{Fraction}
 use Rattle.lp_rows.specs.declared.kinds.Rel.{Rel}
 use Rattle.lp_rows.specs.declared.kinds.Rel.TheVariants.{AtMost, AtLeast, Equal}
 use Rattle.lp_rows.specs.Rows.{RowValue}
-use Rattle.text_grammar.specs.Grammars.{at_line, then_on, follow_by}
 use Rattle.milps.specs.Building.{height_of}
 use Rattle.lp_grammar.specs.declared.cause.LpCause.{LpCause}
 use Rattle.lp_grammar.specs.declared.cause.LpCause.TheVariants as cause
@@ -16,11 +15,11 @@ use Rattle.lp_grammar.specs.declared.stage.Column.{Column}
 use Rattle.lp_grammar.specs.declared.stage.Pending.{Pending}
 use Rattle.lp_grammar.specs.declared.stage.Stage.{Stage}
 use Rattle.lp_grammar.specs.declared.stage.Stage.TheVariants.{Before, Goal, GoalLabel, Rows, RowLabel, Right, Bounds, BoundOf, BoundTo, BoundSign, BoundFrom, BoundOn, BoundMore, Names, Ended}
-use Rattle.lp_grammar.specs.Items.{Item, Opens, Has, Line}
+use Rattle.lp_grammar.specs.Items.{Item, Opens, Has}
 use Rattle.lp_grammar.specs.Programs.{AreStored, IsStoredRow, most_cols, most_rows}
-use Rattle.lp_grammar.specs.Reading.{and_then, with_number, goal_sign, goal_size, goal_token, is_empty, row_token, right_token, is_minus, signed_value, with_value, bound_name, bound_token, bound_of_token, bound_to_token, bound_sign_token, bound_from_token, stage_after, bound_from, bound_on_token, bound_more_token, integer_change, with_integer, name_token, colon_token, with_token, closed, is_due, opened, with_item, with_items, settled_with, settled, with_line, lp_grammar}
+use Rattle.lp_grammar.specs.Reading.{and_then, with_number, goal_sign, goal_size, goal_token, is_empty, row_token, right_token, is_minus, signed_value, with_value, bound_name, bound_token, bound_of_token, bound_to_token, bound_sign_token, bound_from_token, stage_after, bound_from, bound_on_token, bound_more_token, integer_change, with_integer, name_token, colon_token, with_token, closed, is_due, opened, with_item}
 use Rattle.lp_grammar.specs.Scaling.{has_id, insert_term}
-use Rattle.lp_grammar.specs.Taking.{Taken, Objective, nothing_taken, new_column, note_if, at_stage, numeral_value, is_huge, turned_if, or_one, is_out, nothing_pending, coefficient_of, with_sign, with_size, place_from, with_new_column, column_at, column_of, with_name, with_goal_term, with_row_term, with_constant, row_of, with_row, or_zero, objective_of, with_objective, with_column, added_rows, bounded_by, freed, turned, is_infinite_word, is_free_word}
+use Rattle.lp_grammar.specs.Taking.{Taken, Objective, new_column, note_if, at_stage, numeral_value, is_huge, turned_if, or_one, is_out, nothing_pending, coefficient_of, with_sign, with_size, place_from, with_new_column, column_at, column_of, with_name, with_goal_term, with_row_term, with_constant, row_of, with_row, or_zero, objective_of, with_objective, with_column, added_rows, bounded_by, freed, turned, is_infinite_word, is_free_word}
 use Rattle.lp_grammar.specs.Tokens.{Token, Name, Number, Sign, Compare, Colon, Barred, Stray, Numeral}
 use Rattle.lp_reader.specs.Kept.{IsStoredBound, IsKeptStage, AreKept, IsKept}
 use Rattle.lp_reader.proofs.KeptColumns.{signed_kept, KeepsBounds, KeepsKind, bounded_bounds, bounded_kind, freed_bounds, freed_kind, integer_bounds, changed_bounds, changed_length, changed_height, integer_height, new_bounds, new_height, stored_more, rows_more, row_added, height_added}

@@ -7,5 +7,6 @@ pub mod KeptColumns
 pub mod KeptTerms
 pub mod Lined
 pub mod Ready
+pub mod Room
 pub mod Scaled
 pub mod Told

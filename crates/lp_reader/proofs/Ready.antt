@@ -1,31 +1,26 @@
 -- What is taken leaves room for the items that are left, and the program that a text spells is one.
-use Rattle.std.proofs.Common.{◌≡◌, ℕ, zero, suc, ◌+◌, ◌-◌, ◌*◌, ◌^◌, ◌<◌, ◌≤◌, ℤ, pos, Bool, true, false, ◌&&◌, ◌||◌, not, if◌then◌else◌, List, [], ◌∷◌, ◌++◌, length, map, Option, Some, None, Result, Ok, Err, ◌⊎◌, inl, inr, refl, ap, sym, subst, ◌∙◌, arith}
-use Rattle.std.specs.Prelude.{unsigned_abs, nat_le, nat_lt, nat_eq}
+use Rattle.std.proofs.Common.{◌≡◌, ℕ, suc, ◌+◌, ◌-◌, ◌<◌, ◌≤◌, Bool, true, false, ◌||◌, not, if◌then◌else◌, List, [], ◌∷◌, ◌++◌, length, map, Option, Some, None, Result, Ok, Err, refl, ap, sym, subst, ◌∙◌, arith}
+use Rattle.std.specs.Prelude.{nat_le, nat_lt}
 use Rattle.std.proofs.lemmas.Bool.Decides.{nat_tests}
 use Rattle.std.proofs.lemmas.List.{length-map}
 use Rattle.fractions.specs.Fraction.{Fraction}
-use Rattle.lp_rows.specs.declared.columns.Col.{Col}
-use Rattle.lp_rows.specs.declared.kinds.Kind.{Kind}
-use Rattle.lp_rows.specs.declared.kinds.Kind.TheVariants.{Real, Int}
 use Rattle.lp_rows.specs.declared.kinds.Rel.{Rel}
-use Rattle.lp_rows.specs.declared.kinds.Rel.TheVariants.{AtMost, AtLeast, Equal}
+use Rattle.lp_rows.specs.declared.kinds.Rel.TheVariants.{AtMost, AtLeast}
 use Rattle.lp_rows.specs.Rows.{RowValue, is_storable}
 use Rattle.text_grammar.specs.Grammars.{LeadsBy}
 use Rattle.text_grammar.specs.Lines.{lines_of}
 use Rattle.text_grammar.specs.Outcomes.{◌>>=◌, refused_where}
-use Rattle.text_grammar.proofs.Bools.{both, and_true, told}
-use Rattle.milps.specs.Building.{height_of, rows_height, bounds_of, bounds_height, width}
+use Rattle.text_grammar.proofs.Bools.{both, and_true}
+use Rattle.milps.specs.Building.{rows_height, bounds_height, width}
 use Rattle.lp_grammar.specs.declared.cause.LpCause.{LpCause}
 use Rattle.lp_grammar.specs.declared.cause.LpCause.TheVariants as cause
 use Rattle.lp_grammar.specs.declared.stage.Column.{Column}
 use Rattle.lp_grammar.specs.Items.{Item, Line, lp_lines}
-use Rattle.lp_grammar.specs.Programs.{AreStored, IsStoredRow, AreStoredRows, IsMilp, most_cols, most_rows}
+use Rattle.lp_grammar.specs.Programs.{AreStored, AreStoredRows, IsMilp, most_cols, most_rows}
 use Rattle.lp_grammar.specs.Reading.{and_then, is_empty, is_zero, col_of, end_row, low_row, bound_rows, may_end, milp_of, lp_of, is_within, program_after, LpValue, with_item, with_items, settled_with, settled, with_line, lp_grammar}
-use Rattle.lp_grammar.specs.Spelling.{LpSpells}
 use Rattle.lp_grammar.specs.Taking.{Taken, nothing_taken}
-use Rattle.lp_reader.specs.Kept.{IsStoredBound, AreStoredBounds, AreOrdered, AreKept, IsKept, IsReady}
+use Rattle.lp_reader.specs.Kept.{IsStoredBound, AreStoredBounds, IsKept, IsReady}
 use Rattle.lp_reader.specs.Laws.{SpelledIsMilp}
-use Rattle.lp_reader.proofs.KeptColumns.{row_added}
 use Rattle.lp_reader.proofs.KeptTerms.{none_ordered}
 use Rattle.lp_reader.proofs.Kept.{IfKept, HasRoom, wider, item_kept}
 
