@@ -1,8 +1,10 @@
 //! Writes the words of texts.
 //!
-//! Its contract in one sentence: each call appends what its definition says, or runs out of memory.
+//! Its contract in one sentence: each call puts what its definition says into an output, whole or, where that stops, a part
+//! of it from its front.
 //!
 //! Every writer of texts stands on it. A line is a call for each of its words and one for its end.
+//! Read `output.rt` first.
 #![tactic(auto)]
 
 ghost use Rattle.std.specs.Prelude.{◌≡◌, ◌∷◌, [], ◌++◌, OnOk, OnErr, pos, int_lt};
@@ -13,9 +15,8 @@ ghost use Rattle.text_printer.specs.Outputs.{IsCutShort};
 
 mod output;
 
-pub use output::Output;
-
 use itoa::Buffer;
+pub use output::Output;
 use std::alloc::Global;
 
 /// The end of a line.

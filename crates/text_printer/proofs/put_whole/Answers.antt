@@ -2,7 +2,6 @@ use Rattle.std.proofs.Common.{rules, [], ◌∷◌, unsigned_abs}
 use Rattle.std.specs.Fmt.{decimal}
 use Rattle.text_grammar.specs.Printing.{minus_word, whole_word}
 use Rattle.std.proofs.lemmas.Int.{to_z-of_z}
-use mir.Val.{SFits}
 use mir.Syntax.{w128}
 use Rattle.text_printer.specs.Outputs.{IsCutShort}
 use Rattle.text_printer.proofs.Cuts.{cut_before, cut_behind}
