@@ -1,6 +1,8 @@
 #!/usr/bin/env python3
 """Draws the examples and the largest model, and compares the pictures with what the second implementation says: `drawings.py [GDP]`.
 
+`drawings.py --write` writes the pictures that `examples/README.md` shows; without it they are compared, byte for byte.
+
 Each picture is well-formed; its texts lie in it and not over one another; it names what the model names, and marks what is taken, each row
 with nothing to spare and each that fails. The tree of a proof has the proof's nodes, and its leaves by their kinds. What `gdp` refuses is
 refused with the same line and status.
@@ -27,6 +29,7 @@ SVG = "{http://www.w3.org/2000/svg}"
 ADVANCE = 7.83  # of a letter at 13 px in the widest of the fonts
 SIZES = {"title": 15 / 13, "side": 11 / 13}
 PAGE = 1300
+SHOWN = ("process_network", "strip_packing")  # the examples whose pictures their README shows
 ROUTES = {"logic": "8", "hybrid": "8"}  # each with fewer steps than any example needs
 
 
@@ -156,7 +159,11 @@ def wrong_refusals(gdp: str, folder: pathlib.Path) -> list[str]:
         (["draw", str(model), str(folder / "none")], ["test", str(model), str(folder / "none")]),
         (["draw-log", str(folder / "none")], ["format", str(folder / "none")]),
     ]
+    model.write_bytes(model.read_bytes().replace(b"\n", b"\n# \xff\x00\x1b\xe2\x98\x83 a < b & c > d.\n", 1))
+    drawn("draw", str(model))
     wrong = [f"{ours}: {run(DRAW, *ours)}" for ours, theirs in calls if run(DRAW, *ours) != (*run(gdp, *theirs)[:1], "", run(gdp, *theirs)[2])]
+    if gdp == str(ROOT / "gdp") and run(gdp, "draw") != run(DRAW, "draw"):
+        wrong.append("the launcher doesn't hand `draw` on")
     return wrong + [f"{words}: not 7" for words in (["draw"], ["draw-log"], ["draw", "a", "b", "c"]) if run(DRAW, *words)[0] != 7]
 
 
@@ -176,14 +183,29 @@ def wrong_example(gdp: str, model: pathlib.Path) -> list[str]:
     return [f"{model.name}: {line}" for line in wrong]
 
 
+def wrong_shown(is_written: bool) -> list[str]:
+    """Which pictures of the examples' README are not as they are drawn."""
+    wrong = []
+    for name in SHOWN:
+        model, picture = ROOT / "examples" / f"{name}.gdp", ROOT / "docs" / "pictures" / f"{name}.svg"
+        svg = run(DRAW, "draw", str(model), str(model.with_suffix(".point")))[1]
+        if is_written:
+            picture.write_text(svg)
+        elif not picture.exists() or picture.read_text() != svg:
+            wrong.append(f"{picture.name} is not as it is drawn")
+    return wrong
+
+
 def main(words: list[str]) -> int:
     """Draws all, and prints what is wrong."""
+    is_written = words[:1] == ["--write"]
+    words = words[is_written:]
     gdp = os.path.abspath(words[0]) if words else str(ROOT / "gdp")
     os.environ["DATEMOUND_GDP"] = gdp
     wrong = []
     with tempfile.TemporaryDirectory() as name:
         folder = pathlib.Path(name)
-        wrong += wrong_refusals(gdp, folder)
+        wrong += wrong_refusals(gdp, folder) + wrong_shown(is_written)
         models = sorted((ROOT / "examples").glob("*.gdp"))
         with concurrent.futures.ThreadPoolExecutor() as pool:
             wrong += sum(pool.map(lambda model: wrong_example(gdp, model), models), [])

@@ -4,7 +4,7 @@
 `end-to-end.py [PROGRAM..]` tries the programs that `rt ci` built, and the launcher, or else those named. It prints a line
 for each row that fails and ends with `N passed, M failed`. The table is in `cases.py`. Where glpsol and cbc are installed, they
 are given the LP texts of the table. The checker of answers in `tools/`, a program of its own, has its rows in
-`certificate_cases.py`.
+`certificate_cases.py`, and what `gdp explain` says has `explain_cases.py`.
 """
 
 import concurrent.futures
@@ -19,6 +19,7 @@ import time
 
 sys.dont_write_bytecode = True
 import certificate_cases  # noqa: E402
+import explain_cases  # noqa: E402
 import lp_solvers  # noqa: E402
 from case import CLOSED, FULL, GONE  # noqa: E402
 from cases import cases  # noqa: E402
@@ -135,6 +136,7 @@ def rows(program, table):
         table = [case for case in table if not case.is_long and case.words not in [[word] for word in ITS_OWN]]
         for word in ITS_OWN:
             yield f"the launcher's own: {word}", lambda word=word: ask_launcher(word)
+        yield "the launcher's own: explain", explain_cases.launched
     for case in table:
         yield case.name, lambda case=case: run(program, case)
 
@@ -175,7 +177,9 @@ def main(named):
                 passed += 1
     wrong, count = certificate_cases.differences()
     print(f"{count} answers given to tools/check_certificate.py")
-    for line in wrong + ask_solvers(table):
+    unexplained, said = explain_cases.differences(table, programs[0])
+    print(said)
+    for line in wrong + unexplained + ask_solvers(table):
         failed += 1
         print(f"end to end: {line}")
     print(f"{passed} passed, {failed} failed")

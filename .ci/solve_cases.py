@@ -18,8 +18,10 @@ from reference.enumeration import optimum
 from reference.texts import read_model
 
 ROUTES = ("bigm", "hull", "hybrid", "logic")
-DRAWN = 210
-STEPS = "40"
+DRAWN = 230
+STEPS = "200"
+# So many of the drawn models are at least answered, with the value that trying every setting gives.
+CONFIRMED = 200
 SMALL = certificate_cases.MODEL
 TWO = certificate_cases.EMPTY
 LOW = b"gdp 1\nvar x real -5 5\nmin x\ndisjunction xor\ndisjunct a\nrow x >= -2\nend\ndisjunct b\nrow x >= -4\nend\nend\n"
@@ -232,14 +234,19 @@ def checks():
 
 
 def reckoned(model):
-    """What a model answers by each route; an answer must have the kind and the value that trying every setting gives."""
-    best, told = optimum(read_model(model)), []
-    for route in ROUTES:
-        told.append(answer(["solve", route, STEPS, "M"], {"M": model}))
-        if best is not None and told[-1][0] == 0:
-            kind = " ".join(["best", str(best[1])] if best[0] == "best" else best)
-            assert told[-1][1].split(b"\n")[2].decode() == kind, f"{model}, {route}: {told[-1][1]}, and {kind} was reckoned"
-    return told
+    """What a model answers by each route, and whether there is an answer that trying every setting of the model confirms.
+
+    All answers have the same kind and the same value, and these are the ones that trying every setting gives.
+    """
+    told = [answer(["solve", route, STEPS, "M"], {"M": model}) for route in ROUTES]
+    kinds = {text.split(b"\n")[2].decode() for status, text, _ in told if status == 0}
+    assert len(kinds) < 2, f"{model}: the routes answer {kinds}"
+    best = optimum(read_model(model))
+    if best is None:
+        return told, False
+    kind = f"best {best[1]}" if best[0] == "best" else best[0]
+    assert kinds <= {kind}, f"{model}: {kinds}, and {kind} was reckoned"
+    return told, bool(kinds)
 
 
 def changed(text, kind, draw):
@@ -286,7 +293,9 @@ def drawn():
     anywhere, counts = itertools.cycle(("number", "move", "double", "drop", "number", "pair", "route")), collections.Counter()
     with concurrent.futures.ProcessPoolExecutor() as pool:
         told = list(pool.map(reckoned, models, chunksize=4))
-    for at, (model, by_route) in enumerate(zip(models, told)):
+    confirmed = sum(is_confirmed for _, is_confirmed in told)
+    assert confirmed >= CONFIRMED, f"only {confirmed} of the drawn models are answered and reckoned"
+    for at, (model, (by_route, _)) in enumerate(zip(models, told)):
         for route, (status, text, err) in zip(ROUTES, by_route):
             rows.append(solved(f"drawn {at}", route, STEPS, model, status, text, err, is_long=True))
             if status:

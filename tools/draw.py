@@ -25,7 +25,11 @@ USAGE = "usage: gdp draw MODEL [ANSWER or POINT]\n       gdp draw-log LOG [MODEL
 
 
 class Refused(Exception):
-    """The status and the line that ends the run."""
+    """The status that ends the run, and what is told."""
+
+    def __init__(self, status: int, told: str) -> None:
+        super().__init__(status, told)
+        self.status, self.told = status, told
 
 
 def asked(*words: str) -> tuple[int, str]:
@@ -65,24 +69,21 @@ def draw_plan(model: str, at: str = "") -> str:
 
 
 def draw_search(log: str, model: str = "") -> str:
-    """The picture of a log or of an answer's proof."""
-    text = text_of(log)
-    kind = first_word(text)
-    read = None
+    """The picture of a log or of an answer's proof, with the names of a model, and then with what `gdp check` says of the answer."""
+    text, read, said = text_of(log), None, ""
+    is_answer = first_word(text) == "gdp-answer"
     if model:
-        asked("format", model)
-        read = read_model(text_of(model))
-    if kind == "gdp-log":
-        lines = words_of(text)
-        return tree_picture(log_tree(lines), f"A search by {lines[1][1]} that gave up")
-    if kind != "gdp-answer":
-        raise Refused(2, f"{log}: line 1: Header\n")
-    point = read_point(text)
-    if model:
-        asked("check", model, log)
-    if not point.nodes:
-        raise Refused(2, f"{log}: an answer {point.claim} has no tree\n")
-    return tree_picture(proof_tree(point, read), f"The proof of {point.claim} by {point.route}")
+        _, line = asked(*(["check", model, log] if is_answer else ["format", model]))
+        read, said = read_model(text_of(model)), f", {line}" if is_answer else ""
+    try:
+        if not is_answer:
+            head, (_, route), *steps = words_of(text)
+            assert head == ["gdp-log", "1"]
+            return tree_picture(log_tree(steps), f"A search by {route} that gave up")
+        point = read_point(text)
+        return tree_picture(proof_tree(point, read), f"The proof of {point.claim} by {point.route}{said}")
+    except (AssertionError, IndexError, ValueError):
+        raise Refused(2, f"{log}: no log, and no answer with a tree\n") from None
 
 
 def main(words: list[str]) -> int:
@@ -99,14 +100,16 @@ def main(words: list[str]) -> int:
                 text = draw_search(log, model)
             case _:
                 raise Refused(7, USAGE)
-        sys.stdout.write(text)
-        sys.stdout.flush()
     except Refused as refused:
-        sys.stderr.write(refused.args[1])
-        return refused.args[0]
+        sys.stderr.buffer.write(os.fsencode(refused.told))
+        return refused.status
+    try:
+        sys.stdout.buffer.write(text.encode())
+        sys.stdout.buffer.flush()
     except OSError:
         sys.stderr.write("write fault\n")
-        return 6
+        sys.stderr.flush()
+        os._exit(6)
     return 0
 
 

@@ -67,10 +67,11 @@ def several(count: int, what: str) -> str:
 
 @dataclass
 class Quantity:
-    """A variable, and its value where there is one."""
+    """A variable, its value where there is one, and what a step of an endless answer adds to it."""
 
     variable: Variable
     value: Fraction | None
+    step: Fraction = Fraction(0)
 
     def fails(self) -> bool:
         """Whether the value isn't one that the variable may have."""
@@ -83,6 +84,8 @@ class Quantity:
         """Its name, its value and its bounds, as they are written."""
         low, high = self.variable.low, self.variable.high
         value = "" if self.value is None else told(self.value) + (" " + FAILS if self.fails() else "")
+        if self.step:
+            value += f" {'+' if self.step > 0 else '−'} {told(abs(self.step))} k"
         above = (told(high) if high is not None else "∞") + (", whole" if self.variable.is_whole else "")
         return short(self.variable.name), value, told(low) if low is not None else "−∞", above
 
@@ -97,9 +100,12 @@ class Quantity:
             x += (letters[1] + 3) * LETTER
         canvas.text(x + (letters[2] - len(below)) * LETTER, y, below, "faint")
         x, middle = x + (letters[2] + 1.5) * LETTER, y + LINE / 2
-        canvas.path(f"M{x:.1f} {middle - 4:.1f}v8m0 -4h{BAR}m0 -4v8", "line")
-        canvas.text(x + BAR + 1.5 * LETTER, y, above, "faint")
         low, high = self.variable.low, self.variable.high
+        canvas.path(f"M{x:.1f} {middle:.1f}h{BAR}", "line")
+        for end, at in ((low, x), (high, x + BAR)):
+            if end is not None:
+                canvas.path(f"M{at:.1f} {middle - 4:.1f}v8", "line")
+        canvas.text(x + BAR + 1.5 * LETTER, y, above, "faint")
         if self.value is None or self.fails():
             return
         if self.value in (low, high):
@@ -190,7 +196,7 @@ class Plan:
         if depth >= self.fold.depth and block.choices:
             return Stack([*pieces, Text([f"… {several(count(block)[1], 'choice')}"], style="faint")], 6)
         shown = block.choices[: self.fold.choices]
-        boxes = [self.choice(choice, in_force, depth) for choice in shown]
+        boxes: list[Piece] = [self.choice(choice, in_force, depth) for choice in shown]
         pieces += [Flow(boxes)] if self.fold.is_brief and boxes else boxes
         if len(shown) < len(block.choices):
             pieces.append(Text(f"… {several(len(block.choices) - len(shown), 'more choice')}".split(" "), style="faint"))
@@ -261,7 +267,8 @@ class Plan:
             pieces.append(Text(self.verdict.split(" "), style="strong" if self.verdict[0] != FAILS else "wrong", indent=0))
         goal = self.model.goal.words() if self.model.sense else []
         if goal and self.point is not None:
-            goal = [*goal, "= " + told(self.model.goal.value(self.point.values))]
+            value = told(self.model.goal.value(self.point.values))
+            goal = [*goal, value.replace("≈", "≈ ") if "≈" in value else f"= {value}"]
         if goal:
             pieces.append(Text([self.model.sense, *goal], style="strong", indent=0, most=self.fold.lines))
         return pieces
@@ -269,7 +276,8 @@ class Plan:
     def quantities(self) -> list[Piece]:
         """The variables with their values, and the Booleans that are no indicators."""
         values = self.point.values if self.point is not None else {}
-        items = [Quantity(variable, values.get(variable.name)) for variable in self.model.variables]
+        steps = self.point.steps if self.point is not None else {}
+        items = [Quantity(variable, values.get(variable.name), steps.get(variable.name, Fraction(0))) for variable in self.model.variables]
         order = sorted(range(len(items)), key=lambda at: (not values.get(items[at].variable.name), at))[: self.fold.variables]
         pieces: list[Piece] = [Grid([items[at] for at in sorted(order)])]
         if len(order) < len(items):
@@ -288,6 +296,8 @@ class Plan:
         if self.model.choices:
             left = [] if self.fold.is_brief else ["dashed: not taken, so its rows need not hold"]
             words = [f"{TAKEN} taken", *words, *left]
+        if self.point.steps:
+            words.append("k: any whole number from 0 on")
         if self.verdict.startswith(FAILS):
             words.append(f"{FAILS} fails")
         return Text(" · ".join(words).split(" "), style="faint", indent=0)

@@ -10,7 +10,7 @@ from .texts import Block, Model, Option, Point, Row
 SPLIT, BETTER, RULED_OUT, AGAINST, CLOSED, WAITING, STOPPED = "split", "bounded", "refuted", "logic", "closed", "waiting", "stopped"
 
 
-@dataclass
+@dataclass(slots=True)
 class Node:
     """A node of a search: what it is, what is said of it, its two halves and what these are called."""
 
@@ -20,22 +20,27 @@ class Node:
     sides: tuple[str, str] = ("", "")
     is_best: bool = False  # whether the best point of the answer is in it, or the search stopped in it
     size: int = 1
-    leaves: Counter[str] = field(default_factory=Counter)
     is_open: bool = False  # whether its halves are shown
 
+    def leaves(self) -> Counter[str]:
+        """How many leaves of each kind are in it."""
+        return Counter(node.kind for node in below(self) if not node.halves)
 
-def measured(root: Node) -> Node:
-    """Counts the nodes and the kinds of leaves of each part, the lowest parts first."""
+
+def below(root: Node) -> list[Node]:
+    """The node and all in it, each before its halves."""
     order, waiting = [], [root]
     while waiting:
         node = waiting.pop()
         order.append(node)
         waiting += node.halves
-    for node in reversed(order):
+    return order
+
+
+def measured(root: Node) -> Node:
+    """Counts the nodes of each part, the lowest parts first."""
+    for node in reversed(below(root)):
         node.size = 1 + sum(half.size for half in node.halves)
-        node.leaves = Counter() if node.halves else Counter([node.kind])
-        for half in node.halves:
-            node.leaves += half.leaves
     return root
 
 
@@ -96,7 +101,8 @@ class Names:
     def leaf(self, words: Sequence[str], taken: frozenset[str]) -> str:
         """What shows a leaf, where these Booleans are true: the lines of the model by the route logic, else a count of rows."""
         if words[0] == AGAINST:
-            return f"line {self.conditions[int(words[1])]}" if self.model else f"condition {words[1]}"
+            at = int(words[1])
+            return f"line {self.conditions[at]}" if at < len(self.conditions) else f"condition {at}"
         rows = [int(pair.partition(":")[0]) for pair in words[2 if words[0] == BETTER else 1 :]]
         if self.model is None or not self.is_logic:
             return f"{len(rows)} row" + ("s" if len(rows) != 1 else "")
@@ -117,9 +123,9 @@ class Names:
 
 
 def proof_tree(point: Point, model: Model | None) -> Node:
-    """The tree of an answer's proof."""
+    """The tree of an answer's proof; of a column that is 0 or 1 the half with 1 is first, as it is of a Boolean."""
     names = Names(model, point)
-    top = Node(SPLIT)
+    top, turned = Node(SPLIT), []
     due: list[tuple[Node, bool, frozenset[str]]] = [(top, bool(point.values), frozenset())]
     for words in point.nodes:
         parent, is_best, taken = due.pop()
@@ -128,17 +134,21 @@ def proof_tree(point: Point, model: Model | None) -> Node:
             node = Node(SPLIT, question, sides=sides, is_best=is_best)
             first = taken | {question.removesuffix("?")} if words[0] == "truth" else taken
             due += [(node, is_best and half == 1, taken), (node, is_best and half == 0, first)]
+            turned += [node] if sides == ("no", "yes") else []
         else:
             node = Node(words[0], names.leaf(words, taken), is_best=is_best)
         parent.halves.append(node)
+    for node in turned:
+        node.halves, node.sides = node.halves[::-1], ("yes", "no")
     return measured(top.halves[0])
 
 
 def log_tree(lines: Sequence[list[str]]) -> Node:
-    """The tree of a log: nodes by their halves, each with the exchanges at it."""
+    """The tree of the steps of a log: nodes by their halves, each with the exchanges at it."""
     nodes, parents, moves = [Node(CLOSED)], [-1], [0]
+    assert lines[0] == ["open", "root"] and lines[-1][0] == "stop"
     stop = ""
-    for words in lines:
+    for words in lines[1:]:
         match words:
             case ["open", parent, half]:
                 nodes.append(Node(CLOSED))

@@ -35,7 +35,7 @@ class Sum:
         """What the sum is at the values."""
         total = Fraction(self.constant or 0)
         for sign, digits, name in self.terms:
-            size = 1 if not digits else int(digits) if digits.isdigit() else Fraction(digits)
+            size: int | Fraction = int(digits or "1") if digits.isdigit() or not digits else Fraction(digits)
             total += (size if sign == "+" else -size) * values[name]
         return total
 
@@ -184,8 +184,9 @@ def title_of(text: str) -> str:
             told.append(line.strip().lstrip("#").strip())
         elif line.strip() and line.split()[0] != "gdp":
             break
-    first = re.match(r".*?[.?!:](?= |$)", " ".join(told))
-    return first[0].rstrip(":") if first else " ".join(told)
+    words = "".join(letter if letter.isprintable() else " " for letter in " ".join(told))
+    first = re.match(r".*?[.?!:](?= |$)", words)
+    return first[0].rstrip(":") if first else words
 
 
 def sum_of(tokens: list[str]) -> Sum:

@@ -72,8 +72,9 @@ class Tree(Piece):
             left, middle = x + MARK / 2 + depth * step, middles[id(half)]
             canvas.path(f"M{left:.1f} {middles[id(node)]:.1f}V{middle:.1f}h{step:.1f}", "path" if half.is_best else "line")
             room = step - MARK - 6
-            if side and len(side) * SMALL + 4 <= room:
-                wide = len(side) * SMALL + 4
+            side = side if len(side) * SMALL + 4 <= room else side[:1]
+            wide = len(side) * SMALL + 4
+            if side and wide <= room:
                 canvas.box(left + 4 + (room - wide) / 2, middle - 7, wide, 14, "paper")
                 canvas.text(left + 6 + (room - wide) / 2, middle - LINE / 2 - 0.5, side, "side")
         for node, depth in lines:
@@ -83,7 +84,7 @@ class Tree(Piece):
         """A node's mark and its words."""
         mark(canvas, node, x + MARK / 2, middle)
         if node.halves and not node.is_open:
-            words = f"{node.words} … {node.size - 1:,} nodes: {counted(node.leaves)}"
+            words = f"{node.words} … {node.size - 1:,} nodes: {counted(node.leaves())}"
         elif node.kind in CALLED:
             words = CALLED[node.kind][1] + (f": {node.words}" if node.words else "")
         else:
@@ -122,15 +123,21 @@ class Key(Piece):
     """What the marks of the leaves say, with their numbers."""
 
     def __init__(self, root: Node) -> None:
-        self.leaves = root.leaves
+        self.leaves = root.leaves()
+        told = "the first half above, the second below" if self.leaves[WAITING] + self.leaves[STOPPED] else "yes, or at most, above; no, or more, below"
+        self.split = f"split: {told}" if root.halves else ""
 
     def natural(self) -> float:
         return WIDTH
 
     def height(self, width: float) -> float:
-        return LINE * len(self.leaves)
+        return LINE * (len(self.leaves) + bool(self.split))
 
     def draw(self, canvas: Canvas, x: float, y: float, width: float) -> None:
+        if self.split:
+            mark(canvas, Node(SPLIT), x + MARK / 2, y + LINE / 2)
+            canvas.text(x + MARK + 6, y, self.split, "faint")
+            y += LINE
         for kind, (_, called, meaning) in CALLED.items():
             if self.leaves[kind]:
                 mark(canvas, Node(kind), x + MARK / 2, y + LINE / 2)
@@ -141,6 +148,6 @@ class Key(Piece):
 def tree_picture(root: Node, title: str) -> str:
     """The SVG text of a search."""
     unfold(root, LINES)
-    opened = root.size - root.leaves[WAITING]
+    opened = root.size - root.leaves()[WAITING]
     said = f"{title}: {opened:,} node" + ("s" if opened != 1 else "")
     return picture(Stack([Text(said.split(" "), style="title", indent=0), Tree(root), Key(root)], 14), said)

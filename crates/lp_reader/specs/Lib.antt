@@ -1,0 +1,5 @@
+pub mod Grown
+pub mod Kept
+pub mod Read
+pub mod Stored
+pub mod Taken

@@ -1,0 +1,7 @@
+pub mod Digits
+pub mod Far
+pub mod Lowest
+pub mod Made
+pub mod Moved
+pub mod Named
+pub mod Spelled

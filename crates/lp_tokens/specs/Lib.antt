@@ -1,0 +1,3 @@
+pub mod Far
+pub mod Quotients
+pub mod Views
