@@ -168,6 +168,9 @@ def programs():
     box = OPEN.replace(b"max x\n", b"var z real 0 inf\nmax x\nrow x + z <= 8\n")
     rows = [compiled("a plan", "bigm", PLAN, PLAN_TEXT)]
     rows.append(compiled("a bound that a row gives", "bigm", box, text_of("x z a", ("max", [1, 0, 0]), ["+ 1 x2 <= 1", "+ 1 x0 + 1 x1 <= 8", "+ 1 x2 = 1", "+ 1 x0 + 5 x2 <= 8"], whole=[2])))
+    crossed = b"gdp 1\nvar v real 0 10\nvar u real 0 10\nrow v <= 3\nrow v >= 5\nrow u >= 6\nrow v - u >= 0\ndisjunction xor\ndisjunct a\nrow v >= 1\nend\nend\n"
+    listed = ["+ 1 x0 <= 10", "+ 1 x1 <= 10", "+ 1 x2 <= 1", "+ 1 x0 <= 3", "+ 1 x0 >= 5", "+ 1 x1 >= 6", "+ 1 x0 - 1 x1 >= 0", "+ 1 x2 = 1"]
+    rows.append(compiled("bounds that cross in each round", "bigm", crossed, text_of("v u a", ("min", [0] * 3), [*listed, "- 1 x0 + 1 x2 <= 0"], whole=[2])))
     low = b"gdp 1\nvar x real -5 5\nmin x\ndisjunction xor\ndisjunct a\nrow x >= -2\nend\ndisjunct b\nrow x >= -4\nend\nend\n"
     head = ["+ 1 x0 >= -5", "+ 1 x0 <= 5", "+ 1 x1 <= 1", "+ 1 x2 <= 1", "+ 1 x1 + 1 x2 = 1"]
     copies = ["+ 5 x1 + 1 x3 >= 0", "- 5 x1 + 1 x3 <= 0", "+ 5 x2 + 1 x4 >= 0", "- 5 x2 + 1 x4 <= 0", "+ 1 x0 - 1 x3 - 1 x4 = 0"]

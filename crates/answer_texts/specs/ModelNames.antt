@@ -28,6 +28,6 @@ IsOver m claim = IsLong (length (variable_names m)) (length (boolean_names m)) c
 abbrev pub IsClaimOver : ModelValue → Claim → Type 0
 IsClaimOver m claim = IsClaim (variable_names m) (boolean_names m) claim
 
--- the error names the first bad line of a text and its first cause, unless memory was wanted
+-- the error names the first bad line of a text and its first cause, unless memory ran out
 abbrev pub IsModelRefusal : ModelValue → List ℕ → CertError → Type 0
 IsModelRefusal m text error = IsAnswerRefusal (variable_names m) (boolean_names m) text error

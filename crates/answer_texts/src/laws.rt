@@ -23,7 +23,7 @@ pub fn model_names()
     ensures { ModelNames }
 {}
 
-/// Writes an answer and reads it again: what is read is that answer, unless memory is wanted.
+/// Writes an answer and reads it again: what is read is that answer, unless memory runs out.
 #[tactic(auto, using(crate::proofs::ReadAgain::same_answer, crate::proofs::ReadAgain::never_bad))]
 pub fn read_again(
     alloc: Global,

@@ -5,14 +5,15 @@
 //! `max_of` the greatest value of a sum over it, or the variable of the first term whose bound is missing.
 //!
 //! Read `bounds.rt` for a box, `maxima.rt` for what `max_of` answers, `propagating.rt` for the rounds; below it
-//! `declaring.rt` has the box before the first round, `narrowing.rt` what rows make of it, `tallies.rt` and `rounding.rt`
-//! the numbers of one limit, and `laws.rt` the law that points lie in boxes.
+//! `declaring.rt` has the box before the first round, `narrowing.rt` what rows make of it, `moving.rt` which rows a round has
+//! to visit, `tallies.rt` and `rounding.rt` the numbers of one limit, and `laws.rt` the law that points lie in boxes.
 #![tactic(auto)]
 
 pub mod bounds;
 mod declaring;
 pub mod laws;
 pub mod maxima;
+mod moving;
 mod narrowing;
 pub mod propagating;
 mod rounding;

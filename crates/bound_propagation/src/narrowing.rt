@@ -6,6 +6,7 @@ ghost use Rattle.lp_rows.specs.Rows.{are_storable, ascends_from};
 ghost use Rattle.block_tree.specs.Sound.{are_rows_below};
 ghost use Rattle.bound_propagation.specs.Boxes.{turned as turned_terms, halves};
 ghost use Rattle.bound_propagation.specs.Kept.{box_of};
+ghost use Rattle.bound_propagation.specs.Moving.{AreOthersIdle};
 ghost use Rattle.bound_propagation.specs.Narrowing.{AreAlike, kinds_of};
 ghost use Rattle.bound_propagation.specs.Propagated.{
   high_by as high_of,
@@ -19,6 +20,7 @@ ghost use Rattle.bound_propagation.specs.Propagated.{
 ghost use Rattle.bound_propagation.specs.Sizes.{IsEndBelow};
 
 use crate::bounds::Bounds;
+use crate::moving::does_any_move;
 use crate::rounding::{greater, high_by, lesser, low_by};
 use crate::tallies::{least_of_term, left_over, tally_of};
 use block_tree::Bound;
@@ -169,24 +171,31 @@ fn narrow_by_row(
     }
 }
 
-/// Narrows the bounds by rows.
+/// Narrows the bounds by those rows of which a variable moved: the others narrow nothing.
 pub(crate) fn narrow_by_rows(
     alloc: Global,
     vars: &[(Name, Kind, Bound, u32)],
     rows: &[(Row, u32)],
+    moved: &[bool],
     old: &Bounds,
     lows: &mut [Option<i128>],
     highs: &mut [Option<i128>],
 ) -> Result<(), Memory>
     requires ids { are_rows_below (length lows.old) rows.now ≡ true }
+    requires low { lows.old ≡ old.now.lows }
+    requires high { highs.old ≡ old.now.highs }
     requires paired { length highs.old ≡ length lows.old }
     requires few { length lows.old ≤ 500 }
+    requires idle { AreOthersIdle (kinds_of vars.now) rows.now moved.now (box_of old.now) }
     ensures lows { length lows.new ≡ length lows.old }
     ensures highs { length highs.new ≡ length highs.old }
     ensures alike { OnOk result (AreAlike (kinds_of vars.now) [] (record { lows = lows.new; highs = highs.new })
         (limits rows.now (box_of old.now)) (record { lows = lows.old; highs = highs.old })) }
 {
     for row in rows {
+        if !does_any_move(moved, row.0.terms()) {
+            continue;
+        }
         if narrow_by_row(alloc, vars, &row.0, old, lows, highs).is_err() {
             return Err(Memory);
         }

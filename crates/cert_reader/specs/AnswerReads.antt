@@ -37,12 +37,12 @@ pub record IsKept (due : Due) (kind : ClaimKind) (over : ℤ) (ended : Bool) : T
 abbrev pub pushed : List ℤ → List ℕ → List ℕ → List (List ℕ) → Result (List ℤ) CertCause
 pushed numbers first name words = named_number first name words >>= (λ z. Ok (numbers ++ z ∷ []))
 
--- the answer is what is given, unless memory was wanted
+-- the answer is what is given, unless memory ran out
 abbrev pub AnswerGives : Result Answer LineFault → Result Answer CertCause → Type 0
 AnswerGives (Ok answer) given = given ≡ Ok answer
 AnswerGives (Err fault) given = Fails fault given
 
--- the error names the first bad line of a text and its first cause, unless memory was wanted
+-- the error names the first bad line of a text and its first cause, unless memory ran out
 abbrev pub IsAnswerRefusal : List (List ℕ) → List (List ℕ) → List ℕ → CertError → Type 0
 IsAnswerRefusal names booleans text error.Memory = Unit {0}
 IsAnswerRefusal names booleans text (error.At line cause) = IsFirstBadBy (answer_grammar names booleans) (exact_lines text) line cause

@@ -7,7 +7,7 @@ use cert_grammar::CertCause;
 pub enum LineFault {
     /// The line is refused.
     Refused(CertCause),
-    /// Memory was wanted.
+    /// Memory ran out.
     Memory,
 }
 
@@ -21,6 +21,6 @@ pub enum CertError {
         /// The first cause against it.
         cause: CertCause,
     },
-    /// Memory was wanted.
+    /// Memory ran out.
     Memory,
 }

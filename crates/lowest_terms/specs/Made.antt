@@ -30,7 +30,7 @@ abbrev pub IsEndlessOf : ModelTree → PointValue → List Bool → List ℤ →
 IsEndlessOf m y truths ray (Ok claim) = (claim ≡ Endless y truths ray) × (first_error (claim_groups m claim) ≡ Ok tt)
 IsEndlessOf m y truths ray (Err error) = first_error (claim_groups m (Endless y truths ray)) ≡ Err error
 
--- a claim that is made of the point in lowest terms, or the test that does not pass; nothing of want of memory
+-- a claim that is made of the point in lowest terms, or the test that does not pass; nothing of memory that runs out
 abbrev pub IsMade : PointValue → (PointValue → Result Claim AnswerError → Type 0) → Result Claim MakeError → Type 0
 IsMade x Is (Ok claim) = (y : PointValue) × IsLowestOf x y × Is y (Ok claim)
 IsMade x Is (Err (Test error)) = (y : PointValue) × IsLowestOf x y × Is y (Err error)

@@ -19,7 +19,7 @@ use std::alloc::Global;
 pub enum MakeError {
     /// A test does not pass.
     Test(AnswerError),
-    /// Memory was wanted.
+    /// Memory ran out.
     Memory,
 }
 

@@ -1,56 +1,71 @@
 //! Writes the words of texts.
 //!
-//! Its contract in one sentence: each call appends what its definition says, or runs out of memory.
+//! Its contract in one sentence: each call puts what its definition says into an output, whole or, where that stops, a part
+//! of it from its front.
 //!
 //! Every writer of texts stands on it. A line is a call for each of its words and one for its end.
+//! Read `output.rt` first.
 #![tactic(auto)]
 
-ghost use Rattle.std.specs.Prelude.{◌≡◌, ◌∷◌, [], ◌++◌, OnOk, pos, int_lt};
+ghost use Rattle.std.specs.Prelude.{◌≡◌, ◌∷◌, [], ◌++◌, OnOk, OnErr, pos, int_lt};
 ghost use Rattle.std.specs.Fmt.{decimal};
+ghost use Rattle.gdp_io.specs.Sink.{grown};
 ghost use Rattle.text_grammar.specs.Printing.{minus_word, sign_word, whole_word};
+ghost use Rattle.text_printer.specs.Outputs.{IsCutShort};
 
-use gdp_io::Text;
-use outcomes::Memory;
+mod output;
+
+use itoa::Buffer;
+pub use output::Output;
 use std::alloc::Global;
 
 /// The end of a line.
-pub fn end_line(alloc: Global, text: &mut Text) -> Result<(), Memory>
-    ensures { OnOk result (text.new ≡ text.old ++ 10 ∷ []) }
+pub fn end_line<O: Output>(alloc: Global, out: &mut O) -> Result<(), O::Stop>
+    ensures whole { OnOk result (O.written out.new ≡ grown (O.written out.old) (10 ∷ [])) }
+    ensures part { OnErr result (IsCutShort (O.written out.old) (O.written out.new) (10 ∷ [])) }
 {
-    text.push(alloc, b'\n')
+    out.put(alloc, b"\n")
 }
 
 /// A blank and a word.
-pub fn put_word(alloc: Global, text: &mut Text, word: &[u8]) -> Result<(), Memory>
-    ensures { OnOk result (text.new ≡ text.old ++ 32 ∷ word.now) }
+pub fn put_word<O: Output>(alloc: Global, out: &mut O, word: &[u8]) -> Result<(), O::Stop>
+    ensures whole { OnOk result (O.written out.new ≡ grown (O.written out.old) (32 ∷ word.now)) }
+    ensures part { OnErr result (IsCutShort (O.written out.old) (O.written out.new) (32 ∷ word.now)) }
 {
-    text.push(alloc, b' ')?;
-    text.append(alloc, word)
+    out.put(alloc, b" ")?;
+    out.put(alloc, word)
 }
 
 /// The digits of a number.
-pub fn put_digits(alloc: Global, text: &mut Text, number: u128) -> Result<(), Memory>
-    ensures { OnOk result (text.new ≡ text.old ++ decimal number) }
+pub fn put_digits<O: Output>(alloc: Global, out: &mut O, number: u128) -> Result<(), O::Stop>
+    ensures whole { OnOk result (O.written out.new ≡ grown (O.written out.old) (decimal number)) }
+    ensures part { OnErr result (IsCutShort (O.written out.old) (O.written out.new) (decimal number)) }
 {
-    let digits = number.to_string(alloc)?;
-    text.append(alloc, digits.as_bytes())
+    let mut digits = Buffer::new();
+    out.put(alloc, digits.format(number).as_bytes())
 }
 
 /// A blank and a natural number.
-pub fn put_natural(alloc: Global, text: &mut Text, number: u128) -> Result<(), Memory>
-    ensures { OnOk result (text.new ≡ text.old ++ 32 ∷ decimal number) }
+pub fn put_natural<O: Output>(alloc: Global, out: &mut O, number: u128) -> Result<(), O::Stop>
+    ensures whole { OnOk result (O.written out.new ≡ grown (O.written out.old) (32 ∷ decimal number)) }
+    ensures part { OnErr result (IsCutShort (O.written out.old) (O.written out.new) (32 ∷ decimal number)) }
 {
-    text.push(alloc, b' ')?;
-    put_digits(alloc, text, number)
+    out.put(alloc, b" ")?;
+    put_digits(alloc, out, number)
 }
 
 /// A blank, a mark and a natural number directly behind it, as `x7`.
-pub fn put_numbered(alloc: Global, text: &mut Text, mark: u8, number: u128) -> Result<(), Memory>
-    ensures { OnOk result (text.new ≡ text.old ++ 32 ∷ mark ∷ decimal number) }
+pub fn put_numbered<O: Output>(
+    alloc: Global,
+    out: &mut O,
+    mark: u8,
+    number: u128,
+) -> Result<(), O::Stop>
+    ensures whole { OnOk result (O.written out.new ≡ grown (O.written out.old) (32 ∷ mark ∷ decimal number)) }
+    ensures part { OnErr result (IsCutShort (O.written out.old) (O.written out.new) (32 ∷ mark ∷ decimal number)) }
 {
-    text.push(alloc, b' ')?;
-    text.push(alloc, mark)?;
-    put_digits(alloc, text, number)
+    out.put(alloc, &[b' ', mark])?;
+    put_digits(alloc, out, number)
 }
 
 /// Whether a number is negative.
@@ -61,30 +76,27 @@ pub fn is_negative(number: i128) -> bool
 }
 
 /// A `-` where the number is negative.
-pub fn put_minus(alloc: Global, text: &mut Text, number: i128) -> Result<(), Memory>
-    ensures { OnOk result (text.new ≡ text.old ++ minus_word number) }
+pub fn put_minus<O: Output>(alloc: Global, out: &mut O, number: i128) -> Result<(), O::Stop>
+    ensures whole { OnOk result (O.written out.new ≡ grown (O.written out.old) (minus_word number)) }
+    ensures part { OnErr result (IsCutShort (O.written out.old) (O.written out.new) (minus_word number)) }
 {
-    if is_negative(number) {
-        return text.append(alloc, b"-");
-    }
-    Ok(())
+    out.put(alloc, if is_negative(number) { b"-" } else { b"" })
 }
 
 /// A blank and a whole number, with a `-` directly before it where it is negative.
-pub fn put_whole(alloc: Global, text: &mut Text, number: i128) -> Result<(), Memory>
-    ensures { OnOk result (text.new ≡ text.old ++ 32 ∷ whole_word number) }
+pub fn put_whole<O: Output>(alloc: Global, out: &mut O, number: i128) -> Result<(), O::Stop>
+    ensures whole { OnOk result (O.written out.new ≡ grown (O.written out.old) (32 ∷ whole_word number)) }
+    ensures part { OnErr result (IsCutShort (O.written out.old) (O.written out.new) (32 ∷ whole_word number)) }
 {
-    text.push(alloc, b' ')?;
-    put_minus(alloc, text, number)?;
-    put_digits(alloc, text, number.unsigned_abs())
+    out.put(alloc, b" ")?;
+    put_minus(alloc, out, number)?;
+    put_digits(alloc, out, number.unsigned_abs())
 }
 
 /// A blank and the sign before a term.
-pub fn put_sign(alloc: Global, text: &mut Text, number: i128) -> Result<(), Memory>
-    ensures { OnOk result (text.new ≡ text.old ++ 32 ∷ sign_word number) }
+pub fn put_sign<O: Output>(alloc: Global, out: &mut O, number: i128) -> Result<(), O::Stop>
+    ensures whole { OnOk result (O.written out.new ≡ grown (O.written out.old) (32 ∷ sign_word number)) }
+    ensures part { OnErr result (IsCutShort (O.written out.old) (O.written out.new) (32 ∷ sign_word number)) }
 {
-    if is_negative(number) {
-        return put_word(alloc, text, b"-");
-    }
-    put_word(alloc, text, b"+")
+    put_word(alloc, out, if is_negative(number) { b"-" } else { b"+" })
 }

@@ -9,8 +9,8 @@ use Rattle.cert_writer.proofs.answer.answer_text.Goals as goal
 pub returns-clause-text : goal.returns-clause-text
 returns-clause-text c =
     let a = c.args.answer.now in
-    three (codes "gdp-answer 1\nroute") c.put_route.new.text c.end_line.new.text c.put_claim.new.text (32 ∷ route_word a.route) (10 ∷ []) (words_text (claim_lines c.args.names.now c.args.booleans.now a.claim))
-    (rw c.in_ok-text.ensures at c.in_ok-put_route.ensures) c.in_ok-end_line.ensures c.in_ok-put_claim.ensures.text
+    three (codes "gdp-answer 1\nroute") c.put_route.new.text c.end_line.new.out c.put_claim.new.text (32 ∷ route_word a.route) (10 ∷ []) (words_text (claim_lines c.args.names.now c.args.booleans.now a.claim))
+    (rw c.in_ok-text.ensures at c.in_ok-put_route.ensures) (cc c.in_ok-end_line.ensures.whole) c.in_ok-put_claim.ensures.text
     ∙ sym (answer_parts c.args.names.now c.args.booleans.now a)
 
 pub returns-clause-spells : goal.returns-clause-spells

@@ -7,5 +7,5 @@ pub returns : goal.returns
 returns c =
     let a = rw c.vars-vars.ensures.value at c.in_ok-put_vars.ensures in
     let b = rw c.booleans.ensures at c.in_ok-put_booleans.ensures in
-    compiled_put (model_tree c.args.model.now) c.args.milp.now c.new-text.result c.put_vars.new.text c.put_booleans.new.text c.put_milp.new.text (length c.vars-vars.result.now)
-    c.new-text.ensures (ap length c.vars-vars.ensures.value) a b c.in_ok-put_milp.ensures
+    compiled_put (model_tree c.args.model.now) c.args.milp.now c.new-text.result c.put_vars.new.text c.put_booleans.new.text c.put_milp.new.out (length c.vars-vars.result.now)
+    c.new-text.ensures (ap length c.vars-vars.ensures.value) a b (cc c.in_ok-put_milp.ensures.whole)
