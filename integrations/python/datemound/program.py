@@ -96,7 +96,11 @@ class Progress:
             self.is_shown = True
 
     def close(self) -> None:
-        """Takes the line away."""
+        """Called once, when the program has ended: takes the line away."""
+        self._pass_on_building()
+        self._clear()
+
+    def _clear(self) -> None:
         if self.is_shown:
             self._write("\r\x1b[K")
             self.is_shown = False
@@ -108,7 +112,7 @@ class Progress:
         self.read += len(whole)
         for line in whole.decode(errors="replace").splitlines():
             if line.startswith(_BUILDING):
-                self.close()
+                self._clear()
                 self._write(f"{line}\n")
 
     def _write(self, text: str) -> None:
