@@ -126,8 +126,9 @@ class Explainer:
         refused = refusal(said, source.path)
         if refused:
             out = [os.fsdecode(line), *self.described(kind, source, model, *refused)]
-        elif said.status == 0:
-            out = [f"{source.name}: {os.fsdecode(line) or 'gdp reads it'}; nothing to explain"]
+        elif said.status == 0 or kind == "lp" and said.status == 3:
+            # Of an LP text one step is asked for, to see whether it is read.
+            return 0, f"{source.name}: {os.fsdecode(line) or 'gdp reads it'}; nothing to explain\n"
         else:
             out = [os.fsdecode(line), *beside(said, source, model or source)]
         return said.status, "".join(f"{one}\n" for one in out)

@@ -19,6 +19,8 @@ SECTIONS |= dict.fromkeys(("general", "generals", "gen", "binary", "binaries", "
 BARRED = ("lazy constraints", "user cuts", "sos", "sos1", "sos2", "semi", "semis")
 CALLED = {"objective": "the objective", "rows": "the constraints (`Subject To`)", "bounds": "the bounds", "names": "a general or binary section", "end": "`End`"}
 INFINITE = ("inf", "infinity")
+# Section words of other programs, which are names here.
+UNREAD = ("integer", "integers", "int", "ints")
 MOST, MOST_TEXT = 10**15, "1,000,000,000,000,000"
 
 
@@ -89,6 +91,9 @@ class Section:
             met = character_at(self.lines[token.line - 1], token.place)
         else:
             met = quoted(token.text) if token.text else "the end of the text"
+        before = self.tokens[self.at - 1] if self.at else token
+        if before.is_word(*UNREAD) and before.line < token.line:
+            met, what = f"{met}, after {quoted(before.text)} of line {before.line}, which is taken for a variable", "unread section"
         raise Stop(Placed(token.place, met, wanted, "open " + self.kind if self.is_over() else what, token.line))
 
     def take(self, kind: str, texts: tuple[str, ...], wanted: list[str], what: str) -> Token:

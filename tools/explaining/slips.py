@@ -261,6 +261,7 @@ TABLE = [
     Slip("lp", "unsupported", r"(?P<at>(?i:sos\w*))", r"", "special ordered sets are not read", "sos1"),
     Slip("lp", "unsupported", r"(?P<at>(?i:semi))", r"", "semi-continuous variables are not read: write a binary variable and two rows", "semi-continuous\n x"),
     Slip("lp", "unsupported", r"(?P<at>(?i:lazy|user))", r"", "lazy constraints and cuts are not read: put them under `Subject To`", "lazy constraints\n x >= 1"),
+    Slip("lp", "unread section", r"", r"", "whole variables stand below `General`, and those of 0 and 1 below `Binary`", "bounds\n x <= 5\nIntegers\n x y"),
     Slip("lp", "open .*", r"", r"", "what stands above isn't complete; sections are `Bounds`, `General`, `Binary` and `End`, and no others", "integers\n x"),
     Slip("lp", "after a coefficient", r"[0-9]\s*(?P<at>/)", r"", "numbers are decimals: 0.5 for 1/2", " 1/2 x >= 1"),
     Slip("lp", "(bound|after a bound.*)", r"", r"", "a bound is of one variable: x <= 5, x >= 1, 0 <= x <= 5, x = 3 or x free", "bounds\n 2 x <= 5"),

@@ -6,7 +6,7 @@ import re
 from dataclasses import dataclass, field
 from fractions import Fraction
 from math import lcm
-from typing import Iterator, Mapping, TypeVar, Union
+from typing import Any, Iterator, Mapping, TypeVar, Union
 
 from . import calls
 from .calls import ANSWER, MODEL, MOST_STEPS, POINT, ROUTES
@@ -14,14 +14,13 @@ from .errors import ModelError
 from .exact import Number, exact
 from .expressions import Var
 from .places import Place
-from .program import Ran
 from .propositions import Atom
 from .text import Item, Text, named_item, place_of
 
 T = TypeVar("T")
 
-#: A point: of each variable its number, and of Booleans and disjuncts whether they are true.
-Point = Mapping[Union[Var, Atom, str], Union[Number, bool]]
+#: A point: of each variable its number, and of Booleans and disjuncts whether they are true, by the objects or their names.
+Point = Mapping[Any, Union[Number, bool]]
 
 
 class ByName(Mapping[str, T]):
@@ -199,7 +198,7 @@ def point_text(text: Text, point: Result | Point) -> str:
     if isinstance(point, Result):
         if not point.values:
             raise ModelError(f"this result has no point to test: it is {point.status}")
-        point = {**point.values, **point.truths}
+        return point_text(text, {name: point[name] for name in (*point.values, *point.truths)})
     values: dict[str, Fraction] = {}
     truths: list[str] = []
     for key, value in point.items():

@@ -80,7 +80,7 @@ class Linear:
     def __eq__(self, other: Linear | Number) -> Row:  # type: ignore[override]
         return Row(self, "=", as_linear(other))
 
-    def __ne__(self, other: object) -> NoReturn:  # type: ignore[override]
+    def __ne__(self, other: object) -> NoReturn:
         raise ModelError("there are no rows with !=: write a Disjunction of one Disjunct below and one above")
 
     def __lt__(self, other: object) -> NoReturn:

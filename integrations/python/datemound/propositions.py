@@ -11,7 +11,7 @@ from typing import Iterable, Iterator, NoReturn, Union
 
 from .errors import ModelError
 from .names import checked_name
-from .places import place_of_caller
+from .places import Place, place_of_caller
 
 #: A proposition, or a list (or another iterable) of them.
 Propositions = Union["Proposition", Iterable["Propositions"]]
@@ -22,13 +22,15 @@ _SERIALS = itertools.count()
 
 
 class Proposition:
-    """What is true or false in a plan. `levels` and `nodes` are its depth and its size, a name having one of each."""
+    """What is true or false in a plan. `levels` and `nodes` are its depth and its size, a name having one of each; `place` is
+    the line of Python that made it."""
 
     __slots__ = ()
     __hash__ = object.__hash__
 
     levels: int
     nodes: int
+    place: Place
 
     def text(self) -> str:
         """The proposition in a model's text, without the word `logic`."""
@@ -63,10 +65,10 @@ class Proposition:
             "for `a and b`, `a or b` and `not a`"
         )
 
-    def __eq__(self, other: object) -> NoReturn:  # type: ignore[override]
+    def __eq__(self, other: object) -> NoReturn:
         raise ModelError("propositions are not compared by == and !=: write equivalent(a, b) or xor(a, b)")
 
-    __ne__ = __eq__  # type: ignore[assignment]
+    __ne__ = __eq__
 
     def refuse_as_number(self, *_: object) -> NoReturn:
         """Errors: a `ModelError` always."""

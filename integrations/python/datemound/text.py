@@ -99,7 +99,8 @@ class _Writer:
 
     def refuse_names_twice(self) -> None:
         found: dict[str, Var | Atom] = {}
-        for named in (*self.variables, *self.booleans, *self.disjuncts.values()):
+        everything: list[Var | Atom] = [*self.variables, *self.booleans, *self.disjuncts.values()]
+        for named in everything:
             if named.name in found:
                 raise ModelError(_twice(found[named.name], named))
             found[named.name] = named

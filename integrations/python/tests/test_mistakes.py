@@ -3,7 +3,7 @@
 import unittest
 
 import datemound
-from datemound import Boolean, Disjunct, Disjunction, Model, ModelError, Var, land
+from datemound import Boolean, Disjunct, Model, ModelError, Var, land
 
 # Each is run where x, y are variables, p, q Booleans, a, b disjuncts that are in no model, and m is a model.
 MISTAKES = [

@@ -132,7 +132,7 @@ class Shown(WithScripts):
 class Interrupted(WithScripts):
     def test_ctrl_c(self):
         """Ctrl-C ends the program too, and leaves no file."""
-        program = self.script(f"echo $$ > {self.folder}/at; mv {self.folder}/at {self.folder}/pid; exec sleep 60")
+        program = self.script(f"sleep 1; echo $$ > {self.folder}/at; mv {self.folder}/at {self.folder}/pid; exec sleep 60")
         child = self.start(program, "model.solve()", stdout=subprocess.DEVNULL, stderr=subprocess.PIPE)
         until = time.monotonic() + 30
         while not (self.folder / "pid").exists() and time.monotonic() < until:
@@ -147,7 +147,7 @@ class Interrupted(WithScripts):
         self.assert_no_file_left()
 
     def test_a_program_that_does_not_end_at_once(self):
-        program = self.script(f"trap '' TERM; echo $$ > {self.folder}/at; mv {self.folder}/at {self.folder}/pid; while :; do sleep 0.1; done")
+        program = self.script(f"trap '' TERM; sleep 1; echo $$ > {self.folder}/at; mv {self.folder}/at {self.folder}/pid; while :; do sleep 0.1; done")
         child = self.start(program, "model.solve()", stdout=subprocess.DEVNULL, stderr=subprocess.DEVNULL)
         until = time.monotonic() + 30
         while not (self.folder / "pid").exists() and time.monotonic() < until:
