@@ -3,6 +3,8 @@
 import os
 
 import compile_cases
+import make_cases
+import page_cases
 import solve_cases
 from case import CLOSED, FULL, GONE, MODEL, Case, at, tested
 from drawn_texts import drawn_texts
@@ -564,8 +566,7 @@ def words():
     table = [[], ["test"], ["test", "M"], ["test", "M", "P", "P"], ["Test", "M", "P"], ["tes", "M", "P"], ["test ", "M", "P"]]
     table += [["", "M", "P"], ["M", "P"], ["M", "test", "P"], ["--", "test", "M", "P"], ["--help"], ["testing", "M", "P"]]
     table += [["format"], ["format", "M", "P"], ["Format", "M"], ["M", "format"], ["test", "format"]]
-    later = ["lp 100 M", "make 0 1", "bench bigm 100 0 1"]
-    refused = [Case(f"words: {line}", line, files, 7, err=b"words refused\n") for line in table + [line.split() for line in later]]
+    refused = [Case(f"words: {line}", line, files, 7, err=b"words refused\n") for line in [*table, ["lp", "100", "M"]]]
     return refused + [Case("words: no text of Unicode", ["test", b"M\xff", "P"], files, 9)]
 
 
@@ -715,4 +716,5 @@ def cases(root):
     """The whole table."""
     told = verdicts() + spellings() + refusals() + choices() + formats() + truths() + propositions() + words() + reads() + sizes() + streams() + examples(root)
     told += compile_cases.compile_rows() + compile_cases.examples(root) + solve_cases.solve_rows() + solve_cases.examples(root)
-    return checked(told) + drawn(600) + compile_cases.drawn() + solve_cases.drawn() + solve_cases.stepped(root)
+    told += make_cases.make_rows() + page_cases.pages(root)
+    return checked(told) + drawn(600) + compile_cases.drawn() + solve_cases.drawn() + make_cases.drawn() + solve_cases.stepped(root)

@@ -82,7 +82,10 @@ def by_hand():
         ("a line after the end", MODEL, ANSWER + b"end\n", "A: line 11: Form"),
         ("half a text", MODEL, ANSWER[: ANSWER.index(b"tree")], "A: line 6: Form"),
         ("no text", MODEL, b"", "A: line 1: Form"),
-        (BAD_MODEL, MODEL + b"end\n", ANSWER, "M: line 5: refused"),
+        (f"{BAD_MODEL}: an end too many", MODEL + b"end\n", ANSWER, "M: line 5: refused"),
+        (f"{BAD_MODEL}: a denominator of 0", MODEL.replace(b"<= 7", b"<= 7/0"), ANSWER, "M: line 4: refused"),
+        (f"{BAD_MODEL}: a number past the limit", MODEL.replace(b"<= 7", b"<= 1000000000000001/2"), ANSWER, "M: line 4: refused"),
+        (f"{BAD_MODEL}: a proposition in a disjunction", EMPTY.replace(b"end\nend\n", b"end\n"), ANSWER, "M: line 8: refused"),
     ]
 
 

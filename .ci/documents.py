@@ -1,12 +1,12 @@
 #!/usr/bin/env python3
 """Runs what the pages show: `documents.py [--gdp PROGRAM] [--write] [PAGE..]`, by default all pages of PAGES.
 
-Each page has a new folder of its own, with `gdp` on the PATH, and its blocks are taken from the top:
+Each page has a new folder of its own, with `gdp` on the PATH and the Python module at hand, and its blocks are taken from the top:
 
 - A block `sh` whose lines begin with `$ ` is a talk with a shell. Each command is run by bash, and the lines below it have to be what
   it writes, output and errors as they come. `sh if glpsol` is run only where there is a program `glpsol`.
 - A block whose info has a second word (`gdp creamery.gdp`) is a file of this name, and is written. The last words above the block name
-  it, so that a reader of the page sees the name too. `# ..` is not special in it: a file is shown whole.
+  it, so that a reader of the page sees the name too.
 - A picture of the page (`![..](pictures/plan.svg)`) has to be, byte for byte, the file `plan.svg` that the commands made.
 
 A block of any other kind is a mistake of the page, so that nothing stands on it that is not run. `--write` writes what the commands wrote
@@ -24,7 +24,7 @@ import tempfile
 from collections.abc import Callable, Iterator
 
 ROOT = pathlib.Path(__file__).resolve().parent.parent
-PAGES = ("docs/GUIDE.md",)
+PAGES = ("docs/GUIDE.md", "docs/PYTHON.md")
 FENCE = re.compile(r"```(.*)")
 PICTURE = re.compile(r"!\[[^]]*\]\(([^)]+\.svg)\)")
 SECONDS = 60
@@ -54,7 +54,13 @@ class Run:
         commands = folder / "bin"
         commands.mkdir()
         (commands / "gdp").symlink_to(program)
-        self.environment = os.environ | {"PATH": f"{commands}{os.pathsep}{os.environ['PATH']}", "LC_ALL": "C.UTF-8"}
+        self.environment = os.environ | {
+            "PATH": f"{commands}{os.pathsep}{os.environ['PATH']}",
+            "LC_ALL": "C.UTF-8",
+            "DATEMOUND_GDP": str(program),
+            "PYTHONPATH": str(ROOT / "integrations" / "python"),
+            "PYTHONDONTWRITEBYTECODE": "1",
+        }
 
     def told(self, words: list[str]) -> str:
         """What a command writes in the folder, output and errors together."""
@@ -89,17 +95,11 @@ def blocks(lines: list[str]) -> Iterator[Block]:
         raise Mistake(f"line {opened[1]}: the block has no end")
 
 
-def commands(block: Block) -> list[tuple[str, list[str]]]:
-    """The commands of a talk, each with the lines that are shown below it."""
-    told: list[tuple[str, list[str]]] = []
-    for line in block.lines:
-        if line.startswith("$ "):
-            told.append((line[2:], []))
-        elif told:
-            told[-1][1].append(line)
-        else:
-            raise Mistake(f"line {block.first + 1}: a talk begins with `$ ` and a command")
-    return told
+def commands(block: Block) -> list[str]:
+    """The commands of a talk."""
+    if not block.lines or not block.lines[0].startswith("$ "):
+        raise Mistake(f"line {block.first + 1}: a talk begins with `$ ` and a command")
+    return [line[2:] for line in block.lines if line.startswith("$ ")]
 
 
 def talk(run: Run, block: Block) -> list[str]:
@@ -114,7 +114,7 @@ def talk(run: Run, block: Block) -> list[str]:
         case _:
             raise Mistake(f"line {block.first}: after `sh` stands nothing, or `if` and a program")
     lines = []
-    for command, _ in commands(block):
+    for command in commands(block):
         lines += ["$ " + command, *run.told(["bash", "-c", command]).splitlines()]
     return lines
 

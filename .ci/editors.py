@@ -169,6 +169,14 @@ def vim_colours(texts):
     return made
 
 
+def has_vim():
+    """Whether there is a vim that knows colours and scripts."""
+    if not shutil.which("vim"):
+        return False
+    told = subprocess.run(["vim", "--version"], stdin=subprocess.DEVNULL, capture_output=True, text=True, check=False).stdout
+    return all(feature in told for feature in ("+syntax", "+eval", "+lambda"))
+
+
 def spread(groups, line):
     """The kinds of a line's bytes. What has no group is a blank, and `join` leaves an empty word for it."""
     return [GROUPS.get(group, "") for group in groups.split(" ")] if line else []
@@ -196,12 +204,16 @@ def main():
         wrong += differences(f"TextMate: {name}", text, [colours(rules, line) for line in text.splitlines()], tables)
     broken = "".join(line + "\n" for line, _, _ in BROKEN)
     ways = {"TextMate": [colours(rules, line) for line in broken.splitlines()]}
-    if shutil.which("vim"):
+    package = json.loads((GRAMMAR.parent / "package.json").read_text())["contributes"]
+    named = [package["grammars"][0]["path"], package["languages"][0]["configuration"]]
+    wrong += [f"package.json names {name}, which is not there" for name in named if not (GRAMMAR.parent / name).exists()]
+    json.loads((GRAMMAR.parent / "language-configuration.json").read_text())
+    if has_vim():
         *told, ways["Vim"] = vim_colours([*texts.values(), broken])
         for (name, text), kinds in zip(texts.items(), told):
             wrong += differences(f"Vim: {name}", text, kinds, tables)
     else:
-        print("the colours of Vim: left out, since there is no vim here")
+        print("the colours of Vim: left out, since there is no vim here that has them")
     for way, told in ways.items():
         wrong += [f"{way}: {line!r}: {kinds[place]!r} and not {kind!r}" for (line, place, kind), kinds in zip(BROKEN, told) if kinds[place] != kind]
     print(*wrong, f"editors: {len(texts)} texts, {' and '.join(ways)}, {len(wrong)} mistakes", sep="\n")

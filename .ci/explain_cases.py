@@ -92,10 +92,10 @@ def explained(ask, files, *words):
 
 
 def refused_rows(table):
-    """The rows of the end-to-end table whose texts are refused, with the words for `explain`."""
+    """The rows of the end-to-end table whose texts are refused, with the files and the words for `explain`."""
     for case in table:
-        plain = all(isinstance(text, bytes) and "/" not in name for name, text in case.files.items())
-        if case.status != 2 or not isinstance(case.err, bytes) or case.stdin or not plain or not case.files:
+        is_plain = all(isinstance(text, bytes) and "/" not in name for name, text in case.files.items())
+        if case.status != 2 or not isinstance(case.err, bytes) or case.stdin or not is_plain:
             continue
         command, *names = case.words
         if command == "test":
@@ -103,7 +103,7 @@ def refused_rows(table):
         elif command == "check":
             files = {name if name == names[0] else "A.answer": text for name, text in case.files.items()}
             yield case, files, ["A.answer", names[0]], re.sub(rb"^%s(?=: )" % re.escape(names[1].encode()), b"A.answer", case.err)
-        elif command == "lp":
+        elif command == "lp" and case.files:
             yield case, {"F.lp": case.files[names[-1]]}, ["F.lp"], case.err.replace(names[-1].encode(), b"F.lp", 1)
         else:
             yield case, case.files, names[-1:], case.err
@@ -128,7 +128,7 @@ def table_differences(ask, table):
 def place_differences(files, rest, name, number):
     """What is wrong of the lines below the program's: they name file, line and column, show the line, and say what was met."""
     found = re.fullmatch(rb"(.*):([0-9]+):([0-9]+)", rest[0])
-    lines = files.get(name, b"").split(b"\n")
+    lines = (files[name] if name in files else pathlib.Path(name).read_bytes()).split(b"\n")
     line = lines[number - 1] if number <= len(lines) else b""
     if not found or (os.fsdecode(found[1]), int(found[2])) != (name, number) or not 1 <= int(found[3]) <= len(line) + 1:
         return [f"the place {rest[0]!r:.100}"]
@@ -195,6 +195,7 @@ def shown_differences(ask):
     """Long lines are cut round the place, and what doesn't print is escaped."""
     rows = [
         ("a line of many terms", HEAD + "row " + "x + " * 3000 + "x ? 1", ["..."], 120),
+        ("a strict relation beside another slip", HEAD + "row x + 1 < 3", ["write:  row x <= 2\n", "numbers alone only on the right; and no relation is strict\n"], 200),
         ("a control character and a byte", HEAD.encode() + b"row x <= \x07\xc8 1 # \xff\x1b[0m", ["row x <= \\x07\\xc8 1 # \\xff\\x1b[0m"], 200),
         ("a tab", HEAD + "row\tx\t< 1", ["    row x < 1\n          ^\n"], 200),
         ("a wide character before the place", "\u70b9 gdp 1\n", ["\u70b9 gdp 1\n    ^\n"], 200),
@@ -221,6 +222,8 @@ def word_differences(ask):
         ("no words", {}, [], 7, "usage: "),
         ("three words", {}, ["a", "b", "c"], 7, "usage: "),
     ]
+    if reads_lp(ask):
+        rows.append(("an LP text that is read", {"F.lp": LP_HEAD}, ["F.lp"], 0, "F.lp: gdp reads it"))
     wrong = []
     for name, files, words, status, start in rows:
         told, out = explained(ask, files, *words)

@@ -121,7 +121,7 @@ class Model(Text):
     def number(self, text):
         if "inf" in text:
             return -NO_BOUND if "-" in text else NO_BOUND
-        sign, over, point, under = re.fullmatch(r"([-+]?) ?0*(\d+)(?:/0*|(\.))?(\d*)", text).groups()
+        sign, over, point, under = re.fullmatch(r"([-+]?) ?0*(\d+)(?:/0*(?=\d)|(\.))?(\d*)", text).groups()
         over, under = (over + under, "1" + "0" * len(under)) if point else (over, under or "1")
         self.need(len(over) <= 31 and len(under) <= 16 and int(over) <= MOST and 1 <= int(under) <= MOST)
         return Fraction(int(sign + over), int(under))

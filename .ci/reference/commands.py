@@ -3,12 +3,15 @@
 import re
 
 from .checking import check_texts
+from .generator import made_text
+from .lp_texts import read_lp
 from .programs import lp_text
 from .rewriting import Refusal, compiled
-from .solving import ROUTES, solved
+from .solving import ROUTES, lp_solved, solved
 from .texts import BYTES, Refused, canonical, read_model, read_point, verdict
 
 CHOICES = ("bigm", "hull", "hybrid")
+MOST_STEPS, MOST_SEED, MOST_SIZE = 1_000_000, 2**64 - 1, 20
 
 
 def format_model(files, name):
@@ -29,6 +32,21 @@ def compile_model(files, choice, name):
 
 def solve_model(files, route, steps, name):
     return solved(read(read_model, files, name), route, int(steps))
+
+
+def solve_lp(files, steps, name):
+    return lp_solved(read(read_lp, files, name), int(steps))
+
+
+def make_model(files, seed, size):
+    return 0, made_text(int(seed), int(size))
+
+
+def bench(files, route, steps, seed, size):
+    """Three lines: what was solved, by which route, and how it ended."""
+    status, text = solved(read_model(made_text(int(seed), int(size)).encode()), route, int(steps))
+    told = text.splitlines()[2] if status == 0 else "gave up"
+    return status, f"seed {int(seed)} size {int(size)}\nroute {route}\n{told}\n"
 
 
 def check_answer(files, name, at):
@@ -52,21 +70,42 @@ def read(reader, files, name):
 
 def form_of(words):
     """The call that the words ask for, its plain words, and the names of files; None where they are of no form."""
-    if len(words) == 2 and words[0] == "format":
-        return format_model, [], words[1:]
-    if len(words) == 3 and words[0] == "test":
-        return test_point, [], words[1:]
-    if len(words) == 3 and words[0] == "check":
-        return check_answer, [], words[1:]
-    if len(words) == 3 and words[0] == "compile" and words[1] in CHOICES:
-        return compile_model, [words[1]], words[2:]
-    if len(words) == 4 and words[0] == "solve" and words[1] in ROUTES and is_steps(words[2]):
-        return solve_model, words[1:3], words[3:]
-    return None
+    command, *others = words or [""]
+    if command not in FORMS:
+        return None
+    call, shape = FORMS[command]
+    parted = list(zip(shape, others))
+    if len(others) != len(shape) or not all(test is NAME or test(word) for test, word in parted):
+        return None
+    return call, [word for test, word in parted if test is not NAME], [word for test, word in parted if test is NAME]
 
 
-def is_steps(word):
-    return re.fullmatch(r"[0-9]+", word) is not None and 1 <= int(word) <= 1_000_000
+def whole(least, most):
+    """The test of a word that is digits alone, zeros before them allowed, from `least` to `most`."""
+
+    def is_such(word):
+        digits = word.lstrip("0") or "0"
+        return re.fullmatch(r"[0-9]+", word) is not None and len(digits) <= len(str(most)) and least <= int(digits) <= most
+
+    return is_such
+
+
+def one_of(choices):
+    return lambda word: word in choices
+
+
+# For each command what it calls, and a test of each word after it; None stands for the name of a file.
+NAME, ROUTE, STEPS, SEED, SIZE = None, one_of(ROUTES), whole(1, MOST_STEPS), whole(0, MOST_SEED), whole(1, MOST_SIZE)
+FORMS = {
+    "format": (format_model, [NAME]),
+    "test": (test_point, [NAME, NAME]),
+    "check": (check_answer, [NAME, NAME]),
+    "compile": (compile_model, [one_of(CHOICES), NAME]),
+    "solve": (solve_model, [ROUTE, STEPS, NAME]),
+    "lp": (solve_lp, [STEPS, NAME]),
+    "make": (make_model, [SEED, SIZE]),
+    "bench": (bench, [ROUTE, STEPS, SEED, SIZE]),
+}
 
 
 def answer(words, files):

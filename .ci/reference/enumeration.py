@@ -2,7 +2,7 @@
 
 It knows no rewrite, no certificate and no log: what a point is stands in `docs/FORMATS.md`, and the linear programs are solved
 in exact fractions. `optimum(model)` gives `("best", value)`, `("empty",)` or `("endless",)`, and None where a whole variable
-has no bounds, or where there is too much to try.
+has no bounds, or where there is too much to try. `program_optimum(file)` gives the same of an LP text's program.
 """
 
 from fractions import Fraction
@@ -147,3 +147,31 @@ def optimum(model):
             if value != "empty" and (best is None or own + value < best):
                 best = own + value
     return ("empty",) if best is None else ("best", (sign * best + constant) / Fraction(scale))
+
+
+def program_optimum(file):
+    """The optimum of an LP text's program, where its whole columns have a bound on either side; None where it has one without."""
+    program, sign = file.program, 1 if file.program.sense == "min" else -1
+    columns, free = range(len(program.columns)), [column.is_free for column in program.columns]
+    whole = [at for at in columns if program.columns[at].is_whole]
+    listed = program.at_most_rows() + [([(at, -1)], 0) for at in columns if not free[at]]
+    ranges = []
+    for at in whole:
+        ends = [(c, right) for terms, right in listed for name, c in terms if len(terms) == 1 and name == at]
+        lows, highs = [ceil(Fraction(right, c)) for c, right in ends if c < 0], [floor(Fraction(right, c)) for c, right in ends if c > 0]
+        if not lows or not highs:
+            return None
+        ranges.append(range(max(lows), min(highs) + 1))
+    if prod(map(len, ranges)) > MOST_TRIED:
+        return None
+    best = None
+    for values in product(*ranges):
+        fixed = dict(zip(whole, values))
+        left = [([(at, c) for at, c in terms if at not in fixed], right - sum(c * fixed[at] for at, c in terms if at in fixed)) for terms, right in listed]
+        value = least(len(columns), left, [(at, sign * c) for at, c in program.goal if at not in fixed])
+        if value == "endless":
+            return ("endless",)
+        own = sum(sign * c * fixed[at] for at, c in program.goal if at in fixed)
+        if value != "empty" and (best is None or own + value < best):
+            best = own + value
+    return ("empty",) if best is None else ("best", (sign * best + file.constant) / Fraction(file.scale))

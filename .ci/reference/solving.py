@@ -16,14 +16,19 @@ def lowest(over, numbers):
     return over // common, [number // common for number in numbers]
 
 
-def value(model, over, numbers):
-    """The value of a point, formed in 128 bits."""
-    _, terms, constant, scale = model.goal or ("min", [], 0, 1)
-    at, total = dict(zip(model.vars, numbers)), 0
-    for name, c in terms:
-        total = fits(total + fits(c * at[name], "value"), "value")
+def value(terms, constant, scale, over):
+    """The value of a goal at numbers over `over`, formed in 128 bits; `terms` are pairs of a coefficient and a number."""
+    total = 0
+    for c, number in terms:
+        total = fits(total + fits(c * number, "value"), "value")
     total = fits(total + fits(constant * over, "value"), "value")
     return Fraction(total, fits(scale * over, "value"))
+
+
+def model_value(model, over, numbers):
+    _, terms, constant, scale = model.goal or ("min", [], 0, 1)
+    at = dict(zip(model.vars, numbers))
+    return value([(c, at[name]) for name, c in terms], constant, scale, over)
 
 
 def rows_in_force(block, truths):
@@ -84,7 +89,7 @@ def answer_lines(model, route, nodes, steps):
             raise Wide("sum " + said.rsplit(" ", 1)[1])
         assert status == 0
         if found[0] == "best":
-            head.append(f"best {value(model, over, numbers)}")
+            head.append(f"best {model_value(model, over, numbers)}")
         else:
             assert ray_fails(model, truths, found[4][:count]) is None
             head.append("endless")
@@ -95,3 +100,28 @@ def answer_lines(model, route, nodes, steps):
     if found[0] == "endless":
         return [*head, *(f"step {name} {step}" for name, step in zip(model.vars, found[4])), "end"]
     return [*head, "tree", *found[4], "end"]
+
+
+def lp_solved(file, steps):
+    """The same of the program of an LP text."""
+    try:
+        return 0, "".join(line + "\n" for line in lp_answer_lines(file, steps))
+    except GaveUp as gave_up:
+        return 3, "".join(line + "\n" for line in ["gdp-log 1", "route lp", *gave_up.args[0]])
+
+
+def lp_answer_lines(file, steps):
+    searching = Search(ProgramNodes(file.program), steps)
+    found = searching.run()
+    if found[0] == "empty":
+        return ["gdp-lp 1", "empty", "end"]
+    over, numbers = lowest(*found[1:3])
+    head, steps_on = "endless", []
+    if found[0] == "best":
+        try:
+            head = f"best {value([(c, numbers[at]) for at, c in file.program.goal], file.constant, file.scale, over)}"
+        except Wide as wide:
+            raise GaveUp([*searching.log, f"stop {wide}"]) from None
+    else:
+        steps_on = [f"step {name} {step}" for name, step in zip(file.names, found[4])]
+    return ["gdp-lp 1", head, f"over {over}", *(f"val {name} {number}" for name, number in zip(file.names, numbers)), *steps_on, "end"]

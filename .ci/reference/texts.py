@@ -30,12 +30,16 @@ def refuse_if(holds, cause):
         raise Cause(cause)
 
 
-def lines_of(text):
-    """The lines without their comments."""
+def split_lines(text):
+    """The lines, without the carriage returns before their newlines."""
     lines = text.split(b"\n")
     ended, last = lines[:-1], lines[-1]
-    lines = [line[:-1] if line.endswith(b"\r") else line for line in ended] + ([last] if last else [])
-    return [line.split(b"#")[0] for line in lines]
+    return [line[:-1] if line.endswith(b"\r") else line for line in ended] + ([last] if last else [])
+
+
+def lines_of(text):
+    """The lines without their comments."""
+    return [line.split(b"#")[0] for line in split_lines(text)]
 
 
 def words_of(line):

@@ -300,7 +300,7 @@ class Plan:
             words.append("k: any whole number from 0 on")
         if self.verdict.startswith(FAILS):
             words.append(f"{FAILS} fails")
-        return Text(" · ".join(words).split(" "), style="faint", indent=0)
+        return Text([*(f"{word} ·" for word in words[:-1]), words[-1]], style="faint", indent=0)
 
     def piece(self, fold: Fold) -> Stack:
         """The whole picture, so far folded."""

@@ -5,10 +5,10 @@ import re
 from .finding import Finding, quoted
 from .models import Context
 
-WHOLE, FRACTION = r"(?:0|-?[1-9][0-9]*)", r"(?:0|-?[1-9][0-9]*(?:/[1-9][0-9]*)?)"
+PLAIN, WHOLE, FRACTION = r"(?:0|[1-9][0-9]*)", r"(?:0|-?[1-9][0-9]*)", r"(?:0|-?[1-9][0-9]*(?:/[1-9][0-9]*)?)"
 NAME = r"[A-Za-z_][A-Za-z0-9_.]*"
 # The words of a line, and what each is followed by: what it is called, and its pattern.
-SHAPES = {
+SHAPES: dict[str, list[tuple[str, str]]] = {
     "route": [("`bigm`, `hull`, `hybrid` or `logic`", "bigm|hull|hybrid|logic")],
     "best": [("a value, `p` or `p/q` in lowest terms", FRACTION)],
     "empty": [],
@@ -18,15 +18,15 @@ SHAPES = {
     "on": [("a Boolean or an indicator", NAME)],
     "step": [("a variable", NAME), ("a whole number", WHOLE)],
     "tree": [],
-    "int": [("a column", WHOLE), ("a whole number", WHOLE)],
-    "truth": [("the number of a Boolean", WHOLE)],
+    "int": [("a column", PLAIN), ("a whole number", WHOLE)],
+    "truth": [("the number of a Boolean", PLAIN)],
     "bounded": [("a scale", WHOLE)],
     "refuted": [],
-    "logic": [("the place of a condition", WHOLE)],
+    "logic": [("the place of a condition", PLAIN)],
     "end": [],
 }
 NODES = ("int", "truth", "bounded", "refuted", "logic")
-PAIR = re.compile(rf"{WHOLE}:{WHOLE}")
+PAIR = re.compile(rf"{PLAIN}:{WHOLE}")
 
 
 def due(lines: list[bytes], context: Context) -> list[str]:
@@ -58,7 +58,7 @@ def shape(line: str, word: str) -> Finding:
         if part is None or not re.fullmatch(pattern, part):
             met = "the end of the line" if part is None else quoted(part) if part else "a blank"
             is_number = part is not None and re.fullmatch(r"[-+]?[0-9]+(/[0-9]+)?", part) is not None
-            return Finding(min(place + 1, len(line)), met, [wanted], "lowest terms" if is_number else "blanks" if not part else "part")
+            return Finding(min(place + 1, len(line)), met, [wanted], "lowest terms" if is_number else "blanks" if part == "" else "part")
         place += 1 + len(part)
     rest = parts[1 + len(SHAPES[word]) :]
     last = -1

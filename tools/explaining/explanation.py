@@ -2,7 +2,6 @@
 
 import dataclasses
 import os
-import pathlib
 import re
 import stat
 from collections.abc import Callable
@@ -19,6 +18,7 @@ MOST_ANSWER = 64 * LIMIT
 MOST_LINE, MOST_LP = 200_000, 2_000_000
 USAGE_STATUS = 7
 USAGE = "usage: gdp explain FILE [MODEL]\nFILE is a model, an LP text, or a point or an answer, which is read with its MODEL.\n"
+STRICT = re.compile(rb"(?<![-<=>])[<>](?!\s*[<=>])")
 Ask = Callable[[list[str]], Said]
 
 CAUSES = {
@@ -56,12 +56,12 @@ class Source:
     fault: str = ""
 
 
-def source_of(name: str, copies: Copies) -> Source:
-    """Reads a file; what is no plain file is read once, and copied for the program."""
+def source_of(name: str, copies: Copies, most: int) -> Source:
+    """Reads a file; what is no plain file is read once, to a byte past so many, and copied for the program."""
     try:
         is_file = stat.S_ISREG(os.stat(name).st_mode)
         with open(name, "rb") as file:
-            text = file.read((MOST_ANSWER if is_file else LIMIT) + 1)
+            text = file.read((MOST_ANSWER if is_file else most) + 1)
     except (OSError, ValueError) as error:
         return Source(name, name, fault=getattr(error, "strerror", None) or "no name of a file")
     return Source(name, name if is_file else copies.add(text), text)
@@ -84,47 +84,86 @@ def explain(words: list[str], ask: Ask = ask_program) -> tuple[int, str]:
     if not 1 <= len(words) <= 2:
         return USAGE_STATUS, USAGE
     with Copies() as copies:
-        source = source_of(words[0], copies)
+        source = source_of(words[0], copies, MOST_ANSWER if len(words) == 2 else LIMIT)
         kind = kind_of(source.text, source.name, len(words) == 2)
+        explainer = Explainer(ask, copies)
         if kind == "log":
             return 0, f"{source.name}: what the program writes and doesn't read; nothing to explain\n"
         if kind not in ("point", "answer"):
-            return told(kind, source, None, copies, ask, "")
+            return explainer.told(kind, source, None)
         model = words[1] if len(words) == 2 else None if source.fault else model_beside(source.name)
         if model is None and not source.fault:
             return USAGE_STATUS, f"{source.name}: {'a point' if kind == 'point' else 'an answer'} is read with its model: gdp explain {source.name} MODEL\n"
-        note = f"(with the model {model})" if len(words) == 1 and model else ""
-        return told(kind, source, source_of(model or source.name, copies), copies, ask, note)
+        status, out = explainer.told(kind, source, source_of(model or source.name, copies, LIMIT))
+        return status, out + (f"(with the model {model})\n" if len(words) == 1 and model else "")
 
 
 def command(kind: str, path: str, model: Source | None) -> list[str]:
     """The words by which the program reads the text."""
-    return {"model": ["format", path], "lp": ["lp", "1", path], "point": ["test", model and model.path, path], "answer": ["check", model and model.path, path]}[kind]
+    beside = model.path if model else ""
+    return {"model": ["format", path], "lp": ["lp", "1", path], "point": ["test", beside, path], "answer": ["check", beside, path]}[kind]
 
 
-def told(kind: str, source: Source, model: Source | None, copies: Copies, ask: Ask, note: str) -> tuple[int, str]:
-    """What the program says, and what explains it."""
-    said = ask(command(kind, source.path, model))
-    of, of_kind = (model, "model") if model and is_of_model(said, source, model, ask) else (source, kind)
-    line = said.line.replace(os.fsencode(of.path), os.fsencode(of.name), 1) if said.line.startswith(os.fsencode(of.path)) else said.line
-    out = [os.fsdecode(line)] if line else []
-    refused = refusal(said, of.path)
-    if refused:
-        context_model = None if of is model else model
-        out += described(of_kind, of, context_model, *refused, lambda path: ask(command(of_kind, path, context_model)), copies)
-    elif said.status == 0:
-        out = [f"{source.name}: {line.decode() or 'gdp reads it'}; nothing to explain"]
-    else:
-        out += beside(said, of, model or source)
-    return said.status, "\n".join([*out, *([note] if note else [])]) + "\n"
+def is_named(said: Said, source: Source) -> bool:
+    """Whether what the program says is said of this text."""
+    path = os.fsencode(source.path)
+    return said.line.startswith(path + b": ") if said.status == 2 else said.status == 5 and said.line == b"read fault: " + path
 
 
-def is_of_model(said: Said, source: Source, model: Source, ask: Ask) -> bool:
-    """Whether what the program says of a name is of the model's."""
-    if said.status not in (2, 5) or not any(mark + os.fsencode(model.path) in b" " + said.line for mark in (b" ",)):
-        return False
-    starts = said.line.startswith(os.fsencode(model.path) + b": ") or said.line == b"read fault: " + os.fsencode(model.path)
-    return starts and (source.path != model.path or ask(["format", model.path]).status != 0)
+class Explainer:
+    """Explains with answers of a program, whom it asks about copies too."""
+
+    def __init__(self, ask: Ask, copies: Copies):
+        self.ask, self.copies = ask, copies
+
+    def told(self, kind: str, source: Source, model: Source | None) -> tuple[int, str]:
+        """The exit status, what the program says, and what explains it."""
+        said = self.ask(command(kind, source.path, model))
+        if model and is_named(said, model) and (source.path != model.path or self.ask(command("model", model.path, None)).status != 0):
+            kind, source, model = "model", model, None
+        path = os.fsencode(source.path)
+        line = os.fsencode(source.name) + said.line.removeprefix(path) if said.line.startswith(path + b": ") else said.line
+        refused = refusal(said, source.path)
+        if refused:
+            out = [os.fsdecode(line), *self.described(kind, source, model, *refused)]
+        elif said.status == 0 or kind == "lp" and said.status == 3:
+            # Of an LP text one step is asked for, to see whether it is read.
+            return 0, f"{source.name}: {os.fsdecode(line) or 'gdp reads it'}; nothing to explain\n"
+        else:
+            out = [os.fsdecode(line), *beside(said, source, model or source)]
+        return said.status, "".join(f"{one}\n" for one in out)
+
+    def described(self, kind: str, source: Source, model: Source | None, number: int, cause: str) -> list[str]:
+        """The place in a refused line, what was met and wanted there, and what to write."""
+        lines = source.text.split(b"\n") if kind == "answer" else lines_of(source.text)
+        line = lines[number - 1] if number <= len(lines) else b""
+        context = models.context_of(lines[: number - 1] if kind == "model" else lines_of(model.text) if model else [])
+        is_long = len(line) > MOST_LINE or kind == "lp" and len(source.text) > MOST_LP
+        found = None if is_long else place_of(kind, source, lines, number, cause, context)
+        found = found or Finding(len(line) - len(line.lstrip()), "a line, or a text, too long to look for the place in it" if is_long else "this line")
+        slip = slips.slip_at(kind, found.what, bare_of(kind, line), found.place)
+        candidates = [*([slip[1]] if slip and slip[1] else []), *plain(kind, found.what, bare_of(kind, line), context)]
+        written = next((one for one in candidates if self.is_read(one, kind, source, model, number, len(bare_of(kind, line)))), "")
+        shown = show.window(line, found.place) if number <= len(lines) and (line or cause != "Form") else ("(the end of the text)", "^")
+        out = [f"{source.name}:{number}:{show.column(line, found.place)}", "", *(f"    {one}" for one in shown), f"    met:    {found.met}"]
+        out += [f"    wanted: {either(found.wanted)}"] if found.wanted else []
+        for at, one in enumerate(written.split("\n") if written else []):
+            out.append(f"    {'        ' if at else 'write:  '}{''.join(map(show.cell, one.strip()))}")
+        why = slip[0].why if slip else CAUSES.get(cause, cause)
+        is_strict = written and "strict" not in why and STRICT.search(bare_of(kind, line))
+        return [*out, f"    since:  {why}{'; and no relation is strict' if is_strict else ''}"]
+
+    def is_read(self, written: str, kind: str, source: Source, model: Source | None, number: int, size: int) -> bool:
+        """Whether the program reads on past the line, once its first bytes, so many, are written so."""
+        lines = source.text.split(b"\n")
+        if number > len(lines):
+            return False
+        lines[number - 1] = written.encode("utf-8", "surrogateescape") + lines[number - 1][size:]
+        path = self.copies.add(b"\n".join(lines))
+        said = self.ask(command(kind, path, model))
+        os.unlink(path)
+        refused = refusal(said, path)
+        return refused[0] > number + written.count("\n") if refused else said.status in (0, 1, 3, 4)
 
 
 def beside(said: Said, of: Source, model: Source) -> list[str]:
@@ -145,33 +184,9 @@ def beside(said: Said, of: Source, model: Source) -> list[str]:
     return [*shown, f"    {STATUSES.get(said.status, 'see docs/FORMATS.md')}"]
 
 
-def described(kind: str, source: Source, model: Source | None, number: int, cause: str, reads: Callable[[str], Said], copies: Copies) -> list[str]:
-    """The place in a refused line, what was met and wanted there, and what to write."""
-    lines = source.text.split(b"\n") if kind == "answer" else lines_of(source.text)
-    line = lines[number - 1] if number <= len(lines) else b""
-    context = models.context_of(lines[: number - 1] if kind == "model" else lines_of(model.text) if model else [])
-    is_long = len(line) > MOST_LINE or kind == "lp" and len(source.text) > MOST_LP
-    found = None if is_long else place_of(kind, source, lines, number, cause, context)
-    found = found or Finding(len(line) - len(line.lstrip()), "a line, or a text, too long to look for the place in it" if is_long else "this line")
-    slip = slips.slip_at(kind, found.what, line if kind == "answer" else bare_of(kind, line), found.place)
-    candidates = [*([slip[1]] if slip and slip[1] else []), *plain(kind, found.what, bare_of(kind, line), context)]
-    written = next((one for one in candidates if is_read(one, source, number, bare_of(kind, line), reads, copies)), "")
-    shown = show.window(line, found.place) if number <= len(lines) and (line or cause != "Form") else ("(the end of the text)", "^")
-    out = [f"{source.name}:{number}:{show.column(line, found.place)}", "", *(f"    {one}" for one in shown)]
-    out += [f"    met:    {found.met}", f"    wanted: {either(found.wanted)}" if found.wanted else ""]
-    for head, one in zip(["write:  ", *["        "] * 3], written.split("\n") if written else []):
-        out.append(f"    {head}{printable(one.strip())}")
-    out.append(f"    since:  {slip[0].why if slip else CAUSES.get(cause, cause)}")
-    return [one for at, one in enumerate(out) if one or at == 1]
-
-
-def printable(text: str) -> str:
-    return "".join(show.cell(c) for c in text)
-
-
 def bare_of(kind: str, line: bytes) -> bytes:
-    """A line without its comment."""
-    return line.partition(b"\\")[0] if kind == "lp" else bare(line)
+    """A line without its comment; an answer has none."""
+    return line if kind == "answer" else line.partition(b"\\")[0] if kind == "lp" else bare(line)
 
 
 def place_of(kind: str, source: Source, lines: list[bytes], number: int, cause: str, context: models.Context) -> Finding | None:
@@ -193,16 +208,3 @@ def plain(kind: str, what: str, line: bytes, context: models.Context) -> list[st
         text = re.sub(r"^(\s*)", r"\1row ", text)
     made = plainly.sums(text, context.of_kind("variable")) or plainly.propositions(text, context.of_kind("boolean", "indicator"))
     return [made] if made and made != text else []
-
-
-def is_read(written: str, source: Source, number: int, line: bytes, reads: Callable[[str], Said], copies: Copies) -> bool:
-    """Whether the program reads on past the line, once it is written so."""
-    lines = source.text.split(b"\n")
-    if number > len(lines):
-        return False
-    comment = lines[number - 1][len(line) :]
-    lines[number - 1] = written.encode("utf-8", "surrogateescape") + comment
-    path = copies.add(b"\n".join(lines))
-    refused = refusal(reads(path), path)
-    os.unlink(path)
-    return refused is None or refused[0] > number + written.count("\n")

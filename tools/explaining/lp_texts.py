@@ -19,6 +19,8 @@ SECTIONS |= dict.fromkeys(("general", "generals", "gen", "binary", "binaries", "
 BARRED = ("lazy constraints", "user cuts", "sos", "sos1", "sos2", "semi", "semis")
 CALLED = {"objective": "the objective", "rows": "the constraints (`Subject To`)", "bounds": "the bounds", "names": "a general or binary section", "end": "`End`"}
 INFINITE = ("inf", "infinity")
+# Section words of other programs, which are names here.
+UNREAD = ("integer", "integers", "int", "ints")
 MOST, MOST_TEXT = 10**15, "1,000,000,000,000,000"
 
 
@@ -39,7 +41,8 @@ def tokens_of(lines: list[bytes], last: int) -> list[Token]:
         if number > last and tokens and tokens[-1].line > last:
             break
         text = line.partition(b"\\")[0].decode("latin-1")
-        tokens += [Token(number, one.start(one.lastindex), KINDS[one.lastindex - 1], one[one.lastindex]) for one in TOKEN.finditer(text)]
+        found = [(one, one.lastindex or 1) for one in TOKEN.finditer(text)]
+        tokens += [Token(number, one.start(group), KINDS[group - 1], one[group]) for one, group in found]
     return tokens
 
 
@@ -64,7 +67,8 @@ class Section:
     """Goes along the tokens of a section. Where they end the next token is the section word that ends them, or the text's end."""
 
     def __init__(self, kind: str, lines: list[bytes]):
-        self.kind, self.lines, self.tokens, self.at = kind, lines, [], 0
+        self.kind, self.lines, self.at = kind, lines, 0
+        self.tokens: list[Token] = []
         self.end = Token(len(lines) + 1, 0, "end", "")
 
     def peek(self, ahead: int = 0) -> Token:
@@ -87,7 +91,10 @@ class Section:
             met = character_at(self.lines[token.line - 1], token.place)
         else:
             met = quoted(token.text) if token.text else "the end of the text"
-        raise Stop(Placed(token.place, met, wanted, what, token.line))
+        before = self.tokens[self.at - 1] if self.at else token
+        if before.is_word(*UNREAD) and before.line < token.line:
+            met, what = f"{met}, after {quoted(before.text)} of line {before.line}, which is taken for a variable", "unread section"
+        raise Stop(Placed(token.place, met, wanted, "open " + self.kind if self.is_over() else what, token.line))
 
     def take(self, kind: str, texts: tuple[str, ...], wanted: list[str], what: str) -> Token:
         if self.peek().kind != kind or texts and self.peek().text not in texts:
@@ -129,7 +136,7 @@ class Section:
                     pass
                 has_number = self.peek().kind == "number" and bool(self.next())
                 if not has_number and self.peek().kind != "name":
-                    self.stop(["a term"] if is_first else ["a term", "a relation"], "open row" if self.is_over() else "first term" if is_first else "term")
+                    self.stop(["a term"] if is_first else ["a term", "a relation"], "first term" if is_first else "term")
                 self.term(seen, "after a coefficient")
             self.next()
             self.skip("+", "-")

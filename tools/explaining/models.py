@@ -20,7 +20,8 @@ RELATIONS = ("<=", ">=", "=")
 COUNTING = ("exactly", "atleast", "atmost")
 ARGUMENTS = {"not": (1, 1), "implies": (2, 2), "equivalent": (2, 2), "xor": (2, 2)} | dict.fromkeys(("and", "or", *COUNTING), (1, 0))
 HEAD = re.compile(rb"[ \t]*([a-z]+)(?![A-Za-z0-9_.])[ \t]*([A-Za-z_][A-Za-z0-9_.]*)?")
-WORDS = ("var", "boolean", "min", "max", "row", "logic", "disjunction", "disjunct", "end")
+VARIABLES: tuple[str, ...] = ("variable",)
+TRUTHS: tuple[str, ...] = ("boolean", "indicator")
 
 
 @dataclasses.dataclass
@@ -217,26 +218,29 @@ class Proposition:
 
 def proposition(cursor: Cursor) -> Proposition:
     """Names and connectives with their arguments, without recursion."""
-    found, opened = Proposition(), []
+    found = Proposition()
+    words: list[str] = []
+    given: list[int] = []
     while True:
         token = cursor.peek()
         if token.text in ARGUMENTS:
             cursor.next()
-            found.nodes.append((token, len(opened) + 1))
+            found.nodes.append((token, len(words) + 1))
             cursor.take("mark", ("(",), ["`(`"], "after a connective")
             if token.text in COUNTING:
-                count = cursor.peek()
-                if count.kind != "number" or not count.text.isdigit():
+                number = cursor.peek()
+                if number.kind != "number" or not number.text.isdigit():
                     cursor.stop(["a whole number"], "count")
                 found.counts.append(cursor.next())
                 cursor.take("mark", (",",), ["`,` and what is counted"], "after a count")
-            opened.append([token.text, 0])
+            words.append(token.text)
+            given.append(0)
             continue
-        found.nodes.append((argument(cursor), len(opened) + 1))
+        found.nodes.append((argument(cursor), len(words) + 1))
         found.names.append(found.nodes[-1])
-        while opened:
-            opened[-1][1] += 1
-            word, count = opened[-1]
+        while words:
+            given[-1] += 1
+            word, count = words[-1], given[-1]
             least, most = ARGUMENTS[word]
             if count == 201:
                 found.past.append(found.nodes[-1][0])
@@ -244,7 +248,8 @@ def proposition(cursor: Cursor) -> Proposition:
             token = cursor.take("mark", tuple(one.strip("`") for one in may), may, f"after argument {count} of {word}")
             if token.text == ",":
                 break
-            opened.pop()
+            words.pop()
+            given.pop()
         else:
             cursor.end([], "after a proposition")
             return found
@@ -312,16 +317,16 @@ def taken_twice(word: Token, shape: object, context: Context) -> Finding | None:
                 return Finding(name.start, f"{quoted(name.text)}, which stands in this sum already", ["a variable that does not"], "twice in a sum")
             seen.add(name.text)
         return None
-    name = shape.name if isinstance(shape, Variable) else shape
-    if not isinstance(name, Token) or name.text not in context.names:
+    declared = shape.name if isinstance(shape, Variable) else shape
+    if not isinstance(declared, Token) or declared.text not in context.names:
         return None
-    kind = context.names[name.text][0]
-    return Finding(name.start, context.called(name.text), ["a new name"], f"{word.text} of a {kind}")
+    kind = context.names[declared.text][0]
+    return Finding(declared.start, context.called(declared.text), ["a new name"], f"{word.text} of a {kind}")
 
 
 def unknown(name: Token, kinds: tuple[str, ...], context: Context, below: dict[str, int]) -> Finding:
     """A name that isn't one of these kinds."""
-    wanted = "a variable declared above" if kinds == ("variable",) else "a Boolean or an indicator declared above"
+    wanted = "a variable declared above" if kinds == VARIABLES else "a Boolean or an indicator declared above"
     what = "unknown"
     if name.text in context.names:
         met, what = context.called(name.text), context.names[name.text][0]
@@ -336,9 +341,9 @@ def unknown(name: Token, kinds: tuple[str, ...], context: Context, below: dict[s
 
 def unknown_name(word: Token, shape: object, context: Context, below: dict[str, int]) -> Finding | None:
     if isinstance(shape, Sum):
-        names, kinds = [name for _, _, name in shape.terms], ("variable",)
+        names, kinds = [name for _, _, name in shape.terms], VARIABLES
     elif isinstance(shape, Proposition):
-        names, kinds = [name for name, _ in shape.names], ("boolean", "indicator")
+        names, kinds = [name for name, _ in shape.names], TRUTHS
     else:
         return None
     known = set(context.of_kind(*kinds))
@@ -371,17 +376,18 @@ def great_in_sum(shape: Sum) -> Finding | None:
     """The number of a sum that is out of range, by itself or once the sum is in whole numbers."""
     numbers = [(sign, number or Token("number", "1", name.start)) for sign, number, name in shape.terms]
     listed = [*numbers, *([shape.right] if shape.right else [])]
-    for one in listed:
-        if value(one) is None:
-            return bad_number(one[1])
-    for one in numbers:
-        if value(one) == 0:
-            return Finding(one[1].start, f"a coefficient of {quoted(one[1].text)}", ["a number other than 0"], "coefficient of 0")
-    scale = lcm(*(value(one).denominator for one in listed))
-    for one in listed:
-        if abs(value(one) * scale) > MOST:
-            met = f"{quoted(one[1].text)}, which is {quoted(str(value(one) * scale))} once all numbers are times {scale}, so that they are whole"
-            return Finding(one[1].start, met, [f"numbers up to {MOST_TEXT} even then"], "scaled number")
+    values = [(value(one), one[1]) for one in listed]
+    known = [(one, token) for one, token in values if one is not None]
+    if len(known) < len(values):
+        return bad_number(next(token for one, token in values if one is None))
+    for one, token in known[: len(numbers)]:
+        if one == 0:
+            return Finding(token.start, f"a coefficient of {quoted(token.text)}", ["a number other than 0"], "coefficient of 0")
+    scale = lcm(*(one.denominator for one, _ in known))
+    for one, token in known:
+        if abs(one * scale) > MOST:
+            met = f"{quoted(token.text)}, which is {quoted(str(one * scale))} once all numbers are times {scale}, so that they are whole"
+            return Finding(token.start, met, [f"numbers up to {MOST_TEXT} even then"], "scaled number")
     met = f"denominators whose least common multiple is {quoted(str(scale))}"
     return Finding(listed[0][1].start, met, [f"one up to {MOST_TEXT}"], "scale of a goal") if scale > MOST else None
 
@@ -394,10 +400,11 @@ def number_of(word: Token, shape: object) -> Finding | None:
         return Finding(past.start, quoted(past.text), ["a number up to 1,000"], "great count") if past else None
     if isinstance(shape, Variable):
         ends = [end for end in (shape.low, shape.high) if end]
-        for end in ends:
-            if value(end) is None:
-                return bad_number(end[1])
-        if len(ends) == 2 and value(ends[0]) > value(ends[1]):
+        values = [value(end) for end in ends]
+        if None in values:
+            return bad_number(ends[values.index(None)][1])
+        low_value, high_value = [*values, None, None][:2]
+        if low_value is not None and high_value is not None and low_value > high_value:
             low, high = (f"{'-' if sign < 0 else ''}{token.text}" for sign, token in ends)
             return Finding(ends[0][1].start, f"LOW is {quoted(low)} and HIGH is {quoted(high)}", ["a LOW that does not exceed HIGH"], "crossed bounds")
     return None
@@ -416,7 +423,7 @@ def limit(word: Token, shape: object, context: Context) -> Finding | None:
     if isinstance(name, Token) and len(name.text) > 64:
         return Finding(name.start, f"a name of {len(name.text)} bytes", ["up to 64"], "long name")
     if isinstance(shape, Variable):
-        return Finding(name.start, "the 501st variable", ["up to 500 in a model"], "many variables")
+        return Finding(shape.name.start, "the 501st variable", ["up to 500 in a model"], "many variables")
     if isinstance(shape, Sum):
         return Finding(word.start, "the 1,001st row", ["up to 1,000 in a model"], "many rows")
     if isinstance(shape, Proposition):

@@ -36,7 +36,8 @@ def sums(line: str, variables: list[str]) -> str | None:
 
 def sides_of(body: str, variables: set[str]) -> tuple[list[dict[str, Fraction]], list[str]]:
     """The sums between the relations, as coefficients by name, the constant under the empty name."""
-    tokens, at = [], 0
+    tokens: list[re.Match[str]] = []
+    at = 0
     while body[at:].strip():
         found = SUM_TOKEN.match(body, at)
         if found is None:
@@ -55,24 +56,25 @@ def sides_of(body: str, variables: set[str]) -> tuple[list[dict[str, Fraction]],
     return sides, relations
 
 
-def piece_of(found: re.Match[str], variables: set[str]) -> tuple[str, object]:
+def piece_of(found: re.Match[str], variables: set[str]) -> tuple[str, str]:
+    """A token's kind and text; a number's is that of its value."""
     if found["thousands"]:
-        return "number", Fraction(found["thousands"].replace(",", ""))
+        return "number", found["thousands"].replace(",", "")
     if found["number"]:
         power = found["power"] if found["power"] not in variables else ""
         if power and abs(int(power[1:])) > 40:
             raise ValueError("a great power")
-        return "number", Fraction(("0" + found["number"] + "0" if "." in found["number"] else found["number"]) + (power or ""))
+        return "number", ("0" + found["number"] + "0" if "." in found["number"] else found["number"]) + (power or "")
     return ("name", found["name"]) if found["name"] else ("mark", found["mark"])
 
 
 class Reader:
     """Reads linear expressions."""
 
-    def __init__(self, pieces: list[tuple[str, object]]):
+    def __init__(self, pieces: list[tuple[str, str]]):
         self.pieces, self.at = pieces, 0
 
-    def next(self) -> tuple[str, object]:
+    def next(self) -> tuple[str, str]:
         self.at += 1
         return self.pieces[self.at - 1]
 
@@ -107,7 +109,7 @@ class Reader:
     def factor(self, depth: int) -> dict[str, Fraction]:
         kind, text = self.next()
         if kind == "number":
-            return {"": text}
+            return {"": Fraction(text)}
         if kind == "name":
             return {text: Fraction(1)}
         if text != "(" or depth == MOST_DEPTH:
@@ -259,7 +261,7 @@ class Propositions:
         count = self.next() if is_counted and self.pieces[self.at].isdigit() else "1"
         if is_counted and self.pieces[self.at] == ",":
             self.next()
-        parts = []
+        parts: list[str] = []
         while not parts or self.pieces[self.at] == ",":
             self.at += bool(parts)
             parts.append(self.infix(0, depth + 1))

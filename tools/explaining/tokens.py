@@ -32,8 +32,8 @@ class Cursor:
             found = TOKEN.match(self.text, self.place)
             if not found:
                 return Token("end", "", len(self.text.rstrip(" \t")))
-            self.place = found.end()
-            self.ahead.append(Token(KINDS[found.lastindex - 1], found[found.lastindex], found.start(found.lastindex)))
+            self.place, group = found.end(), found.lastindex or 1
+            self.ahead.append(Token(KINDS[group - 1], found[group], found.start(group)))
         return self.ahead[ahead]
 
     def next(self) -> Token:

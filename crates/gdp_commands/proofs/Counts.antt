@@ -1,5 +1,5 @@
 -- A claim has as many numbers and truths as its model has names.
-use Rattle.std.proofs.Common.{◌≡◌, List, length, map, sym, ◌∙◌}
+use Rattle.std.proofs.Common.{◌≡◌, length, sym, ◌∙◌}
 use Rattle.std.proofs.lemmas.List.{length-map}
 use Rattle.model_tree.specs.Values.{ModelValue, model_tree}
 use Rattle.answers.specs.declared.claim.Claim.{Claim}

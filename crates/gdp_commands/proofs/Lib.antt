@@ -3,7 +3,9 @@ mod CompileLaws
 mod Compiling
 mod Counts
 mod Delivered
+mod FiveWords
 mod FourWords
+mod MakeLaws
 mod OneAnswer
 mod OneRead
 mod Opened
@@ -14,4 +16,5 @@ mod Solving
 mod Spelled
 mod Testing
 mod Unread
+mod Unshelved
 mod Valid

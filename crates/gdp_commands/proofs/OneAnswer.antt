@@ -7,7 +7,6 @@ use Rattle.point_tests.specs.declared.verdicts.SumWide.{SumWide}
 use Rattle.point_tests.specs.Satisfied.{point_of}
 use Rattle.point_tests.specs.Tests.{tests_of, verdict_of}
 use Rattle.model_tree.specs.Values.{ModelTree}
-use Rattle.gdp_grammar.specs.declared.cause.ReadCause.{ReadCause}
 use Rattle.gdp_grammar.specs.Canonical.{boolean_names, canonical_text, var_names}
 use Rattle.gdp_grammar.proofs.Once.{one_model, never_both, one_first_bad}
 use Rattle.gdp_grammar.proofs.PointOnce.{one_point, never_point_and_bad, one_first_bad_of_point}

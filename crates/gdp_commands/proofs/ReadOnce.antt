@@ -1,5 +1,5 @@
 -- What a command answers for texts that were read, where it is not that a text is refused.
-use Rattle.std.proofs.Common.{◌≡◌, ◌≢◌, ℕ, List, inl, inr}
+use Rattle.std.proofs.Common.{◌≢◌, ℕ, List, inl, inr}
 use Rattle.answers.specs.declared.answer.Answer as answers
 use Rattle.cert_grammar.specs.Answers.{SpellsAnswer}
 use Rattle.gdp_grammar.specs.Canonical.{boolean_names, var_names}

@@ -1,5 +1,5 @@
 -- What `solve` and `check` write: claims that are true, and logs.
-use Rattle.std.proofs.Common.{◌≡◌, ◌≢◌, ℕ, List, map, length, Some, Result, Ok, Err, refl, sym, ap, ◌∙◌, subst, inl, inr}
+use Rattle.std.proofs.Common.{◌≡◌, ◌≢◌, ℕ, List, Result, Ok, Err, refl, ◌∙◌, subst, inl, inr}
 use Rattle.std.proofs.lemmas.List.{length-map}
 use Rattle.answer_checker.specs.declared.errors.CheckError.{CheckError}
 use Rattle.answer_checker.specs.declared.errors.CheckError.TheVariants.{Test, Rewrite}
@@ -10,14 +10,12 @@ use Rattle.answers.specs.declared.answer.Answer as answers
 use Rattle.answers.specs.declared.answer.Route.{Route}
 use Rattle.answers.specs.declared.claim.Claim.{Claim}
 use Rattle.answers.specs.declared.claim.Claim.TheVariants.{Best, Empty, Endless}
-use Rattle.answers.specs.declared.stop.Stop.{Stop}
-use Rattle.cert_grammar.specs.Answers.{SpellsAnswer, answer_grammar, answer_text_of}
+use Rattle.cert_grammar.specs.Answers.{SpellsAnswer, answer_grammar}
 use Rattle.cert_grammar.specs.ExactLines.{exact_lines}
 use Rattle.cert_grammar.specs.Laws as cert
 use Rattle.cert_grammar.proofs.Sound.{answer_is_sound}
 use Rattle.certificate_checker.specs.declared.refusal.Refusal.{Refusal}
 use Rattle.certificate_checker.specs.declared.refusal.Refusal.TheVariants as refusals
-use Rattle.exact_simplex.specs.Log.{LogOf}
 use Rattle.gdp_grammar.specs.Canonical.{boolean_names, var_names}
 use Rattle.gdp_grammar.specs.Spelling.{Spells}
 use Rattle.gdp_grammar.proofs.Once.{one_model, never_both}
@@ -25,7 +23,6 @@ use Rattle.gdp_solve.specs.Solved.{IsSolution}
 use Rattle.gdp_solve.proofs.Right.{claims_are_right}
 use Rattle.hybrid_rewrite.specs.declared.errors.CompileError.{CompileError}
 use Rattle.hybrid_rewrite.specs.declared.errors.CompileError.TheVariants as compile
-use Rattle.log_writer.specs.Logs.{log_text_of}
 use Rattle.model_tree.specs.Values.{ModelTree}
 use Rattle.rewrite_solving.specs.declared.reached.Reached.{Reached}
 use Rattle.rewrite_solving.specs.declared.reached.Reached.TheVariants.{Claimed, GaveUp}
@@ -44,13 +41,13 @@ use Rattle.gdp_commands.proofs.Spelled.{spelled_is_sound}
 use Rattle.gdp_commands.proofs.Valid.{claim_of_text, valid_is_true}
 
 -- a refusal has the status 4
-refused_is : (m : ModelTree) (error : CompileError) (s : Status) (written : List ℕ) → RefusedSays m error s written → s ≡ status.Rewrite
+pub refused_is : (m : ModelTree) (error : CompileError) (s : Status) (written : List ℕ) → RefusedSays m error s written → s ≡ status.Rewrite
 refused_is m (compile.NoBound mark var) s written says = says.0
 refused_is m (compile.MTooWide mark) s written says = says.0
 refused_is m compile.TooBig s written says = says.0
 refused_is m compile.Memory s written says = absurd says
 
-done_is_not_refused : status.Done ≢ status.Rewrite
+pub done_is_not_refused : status.Done ≢ status.Rewrite
 done_is_not_refused e = cc e
 
 gave_up_is_not_refused : status.GaveUp ≢ status.Rewrite

@@ -1,5 +1,5 @@
 -- What `solve` answers by what solving the model comes to.
-use Rattle.std.proofs.Common.{◌≡◌, ℕ, List, Result, Ok, Err, subst}
+use Rattle.std.proofs.Common.{◌≡◌, ℕ, Result, Ok, Err, subst}
 use Rattle.std.specs.Result.{IfOk}
 use Rattle.outcomes.specs.declared.memory.Memory.{Memory}
 use Rattle.answers.specs.declared.answer.Route.{Route}

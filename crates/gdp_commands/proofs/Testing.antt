@@ -1,5 +1,5 @@
 -- What `test` answers by what its texts spell, and by the texts behind the names.
-use Rattle.std.proofs.Common.{◌≡◌, ℕ, Bool, List, Result, Ok, Err, ◌∙◌, subst, ap, inl, inr}
+use Rattle.std.proofs.Common.{◌≡◌, ℕ, Bool, List, Result, Ok, Err, ◌∙◌, subst, ap, inr}
 use Rattle.std.specs.Result.{IfOk}
 use Rattle.outcomes.specs.declared.memory.Memory.{Memory}
 use Rattle.lp_rows.specs.Points.{PointValue}

@@ -1,5 +1,5 @@
 -- A valid answer is true of the model, whoever wrote it.
-use Rattle.std.proofs.Common.{◌≡◌, ◌<◌, ℕ, ℤ, pos, negsuc, ◌<ℤ◌, Bool, true, false, ◌&&◌, ◌||◌, ◌==◌, nat_le, int_lt, List, [], ◌∷◌, ◌++◌, map, length, Option, Some, None, Result, Ok, Err, refl, sym, ap, ◌∙◌, subst, arith}
+use Rattle.std.proofs.Common.{◌≡◌, ◌<◌, ℕ, ℤ, pos, negsuc, ◌<ℤ◌, Bool, true, false, ◌&&◌, ◌||◌, ◌==◌, nat_le, int_lt, List, [], ◌∷◌, ◌++◌, map, length, Option, Some, None, Result, Ok, Err, refl, sym, ap, ◌∙◌, arith}
 use Rattle.std.proofs.lemmas.Bool.Decides.{nat_tests}
 use Rattle.std.proofs.lemmas.Int.{ints}
 use Rattle.std.proofs.lemmas.List.{map-append}
@@ -25,7 +25,7 @@ use Rattle.answers.specs.declared.answer.Route.TheVariants.{BigM, Hull, Hybrid, 
 use Rattle.answers.specs.declared.claim.Claim.{Claim}
 use Rattle.answers.specs.declared.claim.Claim.TheVariants.{Best, Empty, Endless}
 use Rattle.answer_checker.specs.declared.errors.CheckError.{CheckError}
-use Rattle.answer_checker.specs.declared.errors.CheckError.TheVariants.{Test, Rewrite}
+use Rattle.answer_checker.specs.declared.errors.CheckError.TheVariants.{Test}
 use Rattle.answer_checker.specs.Valid.{IsValid, choice_of, compile_error, compiled_groups, groups_by}
 use Rattle.answer_checker.proofs.Grouped.{first_mapped, itself}
 use Rattle.answer_tests.specs.Counted.{IsCounted}

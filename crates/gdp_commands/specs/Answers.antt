@@ -4,9 +4,11 @@ use Rattle.gdp_io.specs.Causes.{Rose}
 use Rattle.gdp_io.specs.Shelf.{Contents, IsBehind}
 use Rattle.gdp_commands.specs.declared.status.Status.{Status}
 use Rattle.gdp_commands.specs.declared.status.Status.TheVariants.{Read}
+use Rattle.gdp_commands.specs.Bench.{BenchSays}
 use Rattle.gdp_commands.specs.Check.{CheckSays}
 use Rattle.gdp_commands.specs.Compile.{CompileSays}
 use Rattle.gdp_commands.specs.Format.{FormatSays}
+use Rattle.gdp_commands.specs.Make.{MakeSays}
 use Rattle.gdp_commands.specs.Messages.{read_fault}
 use Rattle.gdp_commands.specs.Solve.{SolveSays}
 use Rattle.gdp_commands.specs.Statuses.{IsWorked}
@@ -14,7 +16,7 @@ use Rattle.gdp_commands.specs.Table.{Answer, For}
 use Rattle.gdp_commands.specs.Test.{TestSays}
 use Rattle.gdp_commands.specs.Texts.{IsLong}
 use Rattle.gdp_commands.specs.Words.{Form, IsRead}
-use Rattle.gdp_commands.specs.Words.Form.{Test, Format, Compile, Solve, Check}
+use Rattle.gdp_commands.specs.Words.Form.{Test, Format, Compile, Solve, Check, Make, Bench}
 
 -- The command answers by texts that stand behind its names: those that the shelf reveals, and any others where it hides them.
 abbrev pub Says : Form → Contents → Answer
@@ -35,6 +37,8 @@ Says (Check model answer) contents =
     For (IsBehind contents model) (λ model_text.
     For (IsBehind contents answer) (λ answer_text.
     CheckSays model answer model_text answer_text))
+Says (Make seed size) contents = MakeSays seed size
+Says (Bench route steps seed size) contents = BenchSays route steps seed size
 
 -- no text that is read before this name is too long, where the contents are revealed
 abbrev pub FitsBefore : Form → Contents → List ℕ → Type 0
@@ -43,6 +47,8 @@ FitsBefore (Format model) contents name = Unit {0}
 FitsBefore (Compile choice model) contents name = Unit {0}
 FitsBefore (Solve route steps model) contents name = Unit {0}
 FitsBefore (Check model answer) contents name = (name ≡ model) ⊎ ((all : List ℕ) → contents model ≡ Some all → ¬ IsLong all)
+FitsBefore (Make seed size) contents name = Unit {0}
+FitsBefore (Bench route steps seed size) contents name = Unit {0}
 
 -- the count of a name that the command reads rose, what is read before it is not too long, and the text names it
 abbrev pub SaysFault : Form → Contents → (List ℕ → ℕ) → (List ℕ → ℕ) → List ℕ → Type 0

@@ -1,9 +1,12 @@
 pub mod Answers
+pub mod Bench
 pub mod Check
 pub mod Command
 pub mod Compile
 pub mod CompileLaws
 pub mod Format
+pub mod Make
+pub mod MakeLaws
 pub mod Messages
 pub mod Replies
 pub mod Solve

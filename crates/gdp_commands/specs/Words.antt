@@ -14,6 +14,8 @@ pub data Form : Type 0 where
   Compile : (choice : Choice) → (model : List ℕ) → Form
   Solve : (route : Route) (steps : ℕ) → (model : List ℕ) → Form
   Check : (model answer : List ℕ) → Form
+  Make : (seed size : ℕ) → Form
+  Bench : (route : Route) (steps seed size : ℕ) → Form
 
 -- the word of a choice
 abbrev pub choice_word : Choice → List ℕ
@@ -26,6 +28,15 @@ pub record IsSteps (word : List ℕ) (steps : ℕ) : Type 0 where
   pub spelled : natural_of 1000000 word ≡ Some steps
   pub some : 1 ≤ steps
 
+-- a seed: a number below 2^64, in digits alone
+abbrev pub IsSeed : (word : List ℕ) (seed : ℕ) → Type 0
+IsSeed word seed = natural_of 18446744073709551615 word ≡ Some seed
+
+-- a size, from 1 to 20, in digits alone
+pub record IsSize (word : List ℕ) (size : ℕ) : Type 0 where
+  pub spelled : natural_of 20 word ≡ Some size
+  pub some : 1 ≤ size
+
 -- the words are of this form
 abbrev pub IsForm : List (List ℕ) → Form → Type 0
 IsForm words (Test model point) = words ≡ codes "test" ∷ model ∷ point ∷ []
@@ -33,6 +44,9 @@ IsForm words (Format model) = words ≡ codes "format" ∷ model ∷ []
 IsForm words (Compile choice model) = words ≡ codes "compile" ∷ choice_word choice ∷ model ∷ []
 IsForm words (Solve route steps model) = (word : List ℕ) × (words ≡ codes "solve" ∷ route_word route ∷ word ∷ model ∷ []) × IsSteps word steps
 IsForm words (Check model answer) = words ≡ codes "check" ∷ model ∷ answer ∷ []
+IsForm words (Make seed size) = (first : List ℕ) × (second : List ℕ) × (words ≡ codes "make" ∷ first ∷ second ∷ []) × (IsSeed first seed × IsSize second size)
+IsForm words (Bench route steps seed size) = (first : List ℕ) × (second : List ℕ) × (third : List ℕ)
+    × (words ≡ codes "bench" ∷ route_word route ∷ first ∷ second ∷ third ∷ []) × (IsSteps first steps × (IsSeed second seed × IsSize third size))
 
 -- the command reads what is behind this name
 abbrev pub IsRead : Form → List ℕ → Type 0
@@ -41,6 +55,8 @@ IsRead (Format model) name = name ≡ model
 IsRead (Compile choice model) name = name ≡ model
 IsRead (Solve route steps model) name = name ≡ model
 IsRead (Check model answer) name = (name ≡ model) ⊎ (name ≡ answer)
+IsRead (Make seed size) name = ⊥
+IsRead (Bench route steps seed size) name = ⊥
 
 -- the names that the command reads, in order
 abbrev pub names_of : Form → List (List ℕ)
@@ -49,6 +65,8 @@ names_of (Format model) = model ∷ []
 names_of (Compile choice model) = model ∷ []
 names_of (Solve route steps model) = model ∷ []
 names_of (Check model answer) = model ∷ answer ∷ []
+names_of (Make seed size) = []
+names_of (Bench route steps seed size) = []
 
 -- the words, as bytes
 abbrev pub words_of : List (String Global) → List (List ℕ)

@@ -11,9 +11,11 @@ ghost use Rattle.gdp_commands.specs.Statuses.{IsOut, IsRefused, IsWorked};
 ghost use Rattle.gdp_commands.specs.Streams.{Sent};
 ghost use Rattle.gdp_commands.specs.Words.{Form, IsForm, NoForm, names_of, words_of};
 
+use crate::bench_command::bench_command;
 use crate::check_command::check_command;
 use crate::compile_command::compile_command;
 use crate::format_command::format_command;
+use crate::make_command::make_command;
 use crate::replies::Reply;
 use crate::solve_command::solve_command;
 use crate::status::Status;
@@ -104,5 +106,12 @@ fn answer<S: Shelf>(alloc: Global, command: Command<'_>, shelf: &mut S) -> Resul
             model,
         } => solve_command(alloc, shelf, route, steps, model),
         Command::Check { model, answer } => check_command(alloc, shelf, model, answer),
+        Command::Make { seed, size } => make_command(alloc, seed, size),
+        Command::Bench {
+            route,
+            steps,
+            seed,
+            size,
+        } => bench_command(alloc, route, steps, seed, size),
     }
 }

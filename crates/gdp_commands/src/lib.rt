@@ -5,17 +5,20 @@
 //! names, that text goes to `out` or to `err`, and a read or a write is reported as failed only where a count of faults
 //! rose.
 //!
-//! Read `specs/Words.antt` and `specs/Table.antt`, a table for each command (`Test`, `Format`, `Compile`, `Solve`, `Check`),
-//! then `commands.rt`, `streams.rt`, `fetched.rt`, `replies.rt`, and a file for each command; `specs/CompileLaws.antt` and
+//! Read `specs/Words.antt` and `specs/Table.antt`, a table for each command (`Test`, `Format`, `Compile`, `Solve`, `Check`,
+//! `Make`, `Bench`), then `commands.rt`, `streams.rt`, `fetched.rt`, `replies.rt`, and a file for each command; `specs/CompileLaws.antt` and
 //! `specs/SolveLaws.antt` say what the tables mean.
 #![tactic(auto)]
 
+mod bench_command;
 mod check_command;
 mod commands;
 mod compile_command;
 pub mod compile_laws;
 mod fetched;
 mod format_command;
+mod make_command;
+pub mod make_laws;
 mod messages;
 mod replies;
 mod solve_command;

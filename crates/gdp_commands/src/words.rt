@@ -1,13 +1,43 @@
 //! The words of the command line.
-ghost use Rattle.std.specs.Prelude.{◌≡◌, ◌≢◌, ℕ, [], ◌∷◌, IfSome, IfNone, codes};
+ghost use Rattle.std.specs.Prelude.{◌≡◌, ◌≢◌, ◌≤◌, ℕ, [], ◌∷◌, IfSome, IfNone, codes};
 ghost use Rattle.cert_grammar.specs.Claims.{route_word};
-ghost use Rattle.gdp_commands.specs.Words.{Form, IsForm, IsSteps, NoForm, choice_word, words_of};
+ghost use Rattle.gdp_commands.specs.Words.{Form, IsForm, IsSeed, IsSize, IsSteps, NoForm, choice_word, words_of};
 ghost use Rattle.gdp_commands.specs.Command.{form_of};
 ghost use Rattle.gdp_commands.specs.Words.Form.{Format};
 
 use answers::Route;
 use hybrid_rewrite::Choice;
+use std::marker::Model;
 use text_reader::natural;
+
+/// The size of a model that is made: 1 to 20.
+#[derive(Clone, Copy, Debug)]
+pub struct Size {
+    number: u32,
+}
+
+impl Model for Size {
+    ghost use Rattle.std.specs.Prelude.{ℕ, ◌≤◌};
+
+    ghost Value = { ℕ };
+
+    ghost view = { λ s. s.number };
+
+    ghost invariant = { λ s. (1 ≤ s.number) × (s.number ≤ 20) };
+
+    ghost inverse = { λ n. record { number = n } };
+}
+
+impl Size {
+    /// The number.
+    pub fn get(self) -> u32
+        ensures same { result ≡ self }
+        ensures some { 1 ≤ result }
+        ensures few { result ≤ 20 }
+    {
+        self.number
+    }
+}
 
 /// A command, with what its words stand for.
 #[derive(Clone, Copy, Debug)]
@@ -37,6 +67,18 @@ pub enum Command<'a> {
         model: &'a str,
         answer: &'a str,
     },
+    /// Writes the model of a seed and a size.
+    Make {
+        seed: u64,
+        size: Size,
+    },
+    /// Solves the model of a seed and a size by a route with at most so many steps.
+    Bench {
+        route: Route,
+        steps: u32,
+        seed: u64,
+        size: Size,
+    },
 }
 
 /// The command that the words are a form of.
@@ -55,6 +97,13 @@ pub fn parse_words(words: &[String]) -> Option<Command<'_>>
             first.as_str(),
             second.as_str(),
             third.as_str(),
+        ),
+        [command, first, second, third, fourth] => parse_five(
+            command.as_str(),
+            first.as_str(),
+            second.as_str(),
+            third.as_str(),
+            fourth.as_str(),
         ),
         _ => None,
     }
@@ -86,6 +135,7 @@ fn parse_three<'a>(command: &str, first: &'a str, second: &'a str) -> Option<Com
             model: first,
             answer: second,
         }),
+        "make" => parse_make(first, second),
         _ => None,
     }
 }
@@ -137,6 +187,71 @@ fn parse_solve<'a>(word: &str, number: &str, model: &'a str) -> Option<Command<'
         steps,
         model,
     })
+}
+
+/// The command of five words.
+fn parse_five<'a>(
+    command: &str,
+    first: &str,
+    second: &str,
+    third: &str,
+    fourth: &str,
+) -> Option<Command<'a>>
+    ensures form { IfSome result (λ it. IsForm (command.now ∷ first.now ∷ second.now ∷ third.now ∷ fourth.now ∷ []) (form_of it)) }
+    ensures none { IfNone result (NoForm (command.now ∷ first.now ∷ second.now ∷ third.now ∷ fourth.now ∷ [])) }
+{
+    match command {
+        "bench" => parse_bench(first, second, third, fourth),
+        _ => None,
+    }
+}
+
+/// The command that makes a model, where the words are a seed and a size.
+fn parse_make<'a>(first: &str, second: &str) -> Option<Command<'a>>
+    ensures form { IfSome result (λ it. IsForm (codes "make" ∷ first.now ∷ second.now ∷ []) (form_of it)) }
+    ensures none { IfNone result (NoForm (codes "make" ∷ first.now ∷ second.now ∷ [])) }
+{
+    let seed = parse_seed(first)?;
+    let size = parse_size(second)?;
+    Some(Command::Make { seed, size })
+}
+
+/// The command that solves a model that is made, where the words are a route's, a number of steps, a seed and a size.
+fn parse_bench<'a>(word: &str, first: &str, second: &str, third: &str) -> Option<Command<'a>>
+    ensures form { IfSome result (λ it. IsForm (codes "bench" ∷ word.now ∷ first.now ∷ second.now ∷ third.now ∷ []) (form_of it)) }
+    ensures none { IfNone result (NoForm (codes "bench" ∷ word.now ∷ first.now ∷ second.now ∷ third.now ∷ [])) }
+{
+    let route = parse_route(word)?;
+    let steps = parse_steps(first)?;
+    let seed = parse_seed(second)?;
+    let size = parse_size(third)?;
+    Some(Command::Bench {
+        route,
+        steps,
+        seed,
+        size,
+    })
+}
+
+/// The seed that a word spells, in digits alone.
+fn parse_seed(word: &str) -> Option<u64>
+    ensures some { IfSome result (λ seed. IsSeed word.now seed) }
+    ensures none { IfNone result ((seed : ℕ) → ¬ IsSeed word.now seed) }
+{
+    natural(word.as_bytes(), u64::MAX)
+}
+
+/// The size that a word spells: 1 to 20, in digits alone.
+fn parse_size(word: &str) -> Option<Size>
+    ensures some { IfSome result (λ size. IsSize word.now size) }
+    ensures none { IfNone result ((size : ℕ) → ¬ IsSize word.now size) }
+{
+    match natural(word.as_bytes(), 20) {
+        None | Some(0) => None,
+        Some(size) => Some(Size {
+            number: size as u32,
+        }),
+    }
 }
 
 /// The route of this word.

@@ -19,14 +19,14 @@ with_goal t m = record m { sense = t.sense; goal = t.objective.terms }
 abbrev pub cols_of : Taken → MilpValue
 cols_of t = with_cols new_milp (map col_of t.columns)
 
-pub as_many : (t : Taken) (m : MilpValue) → IsKept t → m ≡ cols_of t → length t.names ≡ length m.cols
-as_many t m k e = k.1.named ∙ sym (length-map t.columns col_of) ∙ ap (λ (x : MilpValue). length x.cols) (sym e)
+pub as_many : (most : ℕ) (t : Taken) (m : MilpValue) → IsKept most t → m ≡ cols_of t → length t.names ≡ length m.cols
+as_many most t m k e = k.1.named ∙ sym (length-map t.columns col_of) ∙ ap (λ (x : MilpValue). length x.cols) (sym e)
 
-pub goal_stored : (t : Taken) (m : MilpValue) → IsKept t → m ≡ cols_of t → AreStored (length m.cols) t.objective.terms
-goal_stored t m k e = subst (λ (n : ℕ). AreStored n t.objective.terms) (as_many t m k e) k.1.objective
+pub goal_stored : (most : ℕ) (t : Taken) (m : MilpValue) → IsKept most t → m ≡ cols_of t → AreStored (length m.cols) t.objective.terms
+goal_stored most t m k e = subst (λ (n : ℕ). AreStored n t.objective.terms) (as_many most t m k e) k.1.objective
 
-pub rows_stored : (t : Taken) (m n : MilpValue) → IsKept t → m ≡ cols_of t → n ≡ with_goal t m → AreStoredRows (length n.cols) t.rows
-rows_stored t m n k e f = subst (λ (x : ℕ). AreStoredRows x t.rows) (as_many t m k e ∙ ap (λ (x : MilpValue). length x.cols) (sym f)) k.1.rows
+pub rows_stored : (most : ℕ) (t : Taken) (m n : MilpValue) → IsKept most t → m ≡ cols_of t → n ≡ with_goal t m → AreStoredRows (length n.cols) t.rows
+rows_stored most t m n k e f = subst (λ (x : ℕ). AreStoredRows x t.rows) (as_many most t m k e ∙ ap (λ (x : MilpValue). length x.cols) (sym f)) k.1.rows
 
 -- all of it is the program, and what passes a limit on the way passes it
 pub all_same : (t : Taken) (m n o : MilpValue) → m ≡ cols_of t → n ≡ with_goal t m → o ≡ with_rows n t.rows → with_rows o (bound_rows 0 t.columns) ≡ milp_of t

@@ -1,5 +1,5 @@
 -- Scales, and terms in whole numbers.
-use Rattle.std.proofs.Common.{◌≡◌, ℕ, ◌+◌, ◌*◌, ◌/◌, ◌^◌, ◌<◌, ◌≤◌, ℤ, pos, negsuc, to_z, of_z, Ok, length, drop, get_or, Bool, true, false, ◌&&◌, if◌then◌else◌, List, [], ◌∷◌, ◌++◌, Option, Some, None, refl, ap, sym, ◌∙◌, inl, inr, append-nil, append_assoc, arith}
+use Rattle.std.proofs.Common.{◌≡◌, ℕ, ◌+◌, ◌*◌, ◌/◌, ◌^◌, ◌<◌, ◌≤◌, ℤ, pos, negsuc, to_z, of_z, Ok, Err, subst, length, drop, get_or, Bool, true, false, ◌&&◌, if◌then◌else◌, List, [], ◌∷◌, ◌++◌, Option, Some, None, refl, ap, sym, ◌∙◌, inl, inr, append-nil, append_assoc, arith}
 use Rattle.std.specs.Prelude.{nat_eq, nat_le, unsigned_abs}
 use Rattle.std.specs.Prelude.{FitsSigned}
 use Rattle.std.specs.Int.{IsGcd, w128}
@@ -17,6 +17,9 @@ use Rattle.lp_rows.specs.Rows.{RowValue, is_storable, are_storable, row_refusal,
 use Rattle.text_grammar.proofs.Bools.{told}
 use Rattle.lp_grammar.specs.Scaling.{divisor_of, common_multiple, scale_with, scale_over, scaled, stored_terms}
 use Rattle.lp_grammar.specs.Taking.{Objective, row_by, objective_by}
+use Rattle.lp_grammar.specs.Programs.{AreStored}
+use Rattle.lp_reader.specs.Kept.{AreOrdered}
+use Rattle.lp_reader.proofs.KeptTerms.{are_stored}
 use Rattle.lp_reader.specs.Stored.{if_storable, stored_on}
 use Rattle.lp_grammar.proofs.Scales.{divisor_is}
 
@@ -200,3 +203,21 @@ scale_stops ts i k den t o lt item e stops so_far =
     ∙ ap (λ (d : ℕ). scale_over (scale_with d (Some k)) (drop (i + 1) ts)) (sym e)
     ∙ ap (λ (s : Option ℕ). scale_over s (drop (i + 1) ts)) (sym stops) ∙ none_over (drop (i + 1) ts))
     ∙ so_far
+
+-- a row that is stored is not refused
+made_of_stored : (n : ℕ) (l : List (ℕ × ℤ)) (rel : Rel) (z : ℤ) → AreStored n l → is_storable z ≡ true → row_made l rel z ≡ Ok (record { terms = l; rel = rel; right = z })
+made_of_stored n l rel z is s = rw (is.ascend, is.none, is.small, s) refl
+
+pub stored_made : (n k : ℕ) (ts : List (ℕ × Fraction)) (rel : Rel) (l : List (ℕ × ℤ)) (z w : ℤ) (right : Fraction) (x y : RowError) → AreOrdered n ts → Some l ≡ stored_on k [] ts → Some z ≡ if_storable (scaled k right) → w ≡ z
+    → x ≡ y → (y ≡ error.Memory → ⊥) → OrMemory error.Memory (Err x) (row_made l rel w) → ⊥
+stored_made n k ts rel l z w right x y ordered e f g why other h = go h
+  where
+    stored : AreStored n l
+    stored = let a = terms_kept k ts l e in subst (λ (m : List (ℕ × ℤ)). AreStored n m) (sym a.1) (are_stored n k ts ordered a.0)
+
+    small : is_storable w ≡ true
+    small = let b = number_kept (scaled k right) z f in ap is_storable (g ∙ b.1) ∙ b.0
+
+    go : OrMemory error.Memory (Err x) (row_made l rel w) → ⊥
+    go (inl m) = absurd (cc (m ∙ made_of_stored n l rel w stored small))
+    go (inr m) = other (sym why ∙ cc m)

@@ -20,9 +20,7 @@ use Rattle.lp_grammar.specs.Spelling.{LpSpells, IsFirstBadOfLp}
 use Rattle.lp_grammar.specs.Taking.{Taken, nothing_taken}
 use Rattle.lp_reader.specs.declared.read.LpError.{LpError}
 use Rattle.lp_reader.specs.declared.read.LpError.TheVariants.{At, Memory}
-use Rattle.lp_reader.specs.Kept.{IsKept}
 use Rattle.lp_reader.specs.Read.{Follows, LinesTell, IsBad}
-use Rattle.lp_reader.proofs.Kept.{start_kept, lines_kept}
 
 -- the laws of the grammar
 exact : IsExact lp_grammar
@@ -96,7 +94,3 @@ written_read m text (Ok p) is e spelled bad = inl (ap (λ (q : LpValue). Ok q) (
 written_read m text (Err (At line cause)) is e spelled bad =
     absurd (exact.never_both (lines text) (written_program m) line cause (subst (λ (t : List ℕ). LpSpells t (written_program m)) (sym e) (written_spells m is)) bad)
 written_read m text (Err Memory) is e spelled bad = inr refl
-
--- what the lines lead to is kept
-pub follows_kept : (text : List ℕ) (t after : Taken) (line : ℕ) → t ≡ nothing_taken → Follows text t after line → IsKept after
-follows_kept text t after line start follows = lines_kept 1 t after (lines text) (subst (λ (u : Taken). IsKept u) (sym start) start_kept) follows.lead

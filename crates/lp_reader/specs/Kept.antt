@@ -1,5 +1,5 @@
 -- What holds of what was taken, wherever a text stands.
-use Rattle.std.specs.Prelude.{◌≡◌, ℕ, ◌+◌, nat_eq, unsigned_abs, true, false, List, [], ◌∷◌, length, map, Option, None, Some}
+use Rattle.std.specs.Prelude.{◌≡◌, ℕ, ◌+◌, ◌-◌, ◌^◌, ◌≤◌, nat_eq, unsigned_abs, true, false, List, [], ◌∷◌, length, map, Option, None, Some}
 use Rattle.fractions.specs.Fraction.{Fraction}
 use Rattle.lp_rows.specs.Holding.{ids_below}
 use Rattle.lp_rows.specs.Rows.{RowValue, ascends_from, is_storable}
@@ -37,9 +37,11 @@ pub record AreOrdered (n : ℕ) (ts : List (ℕ × Fraction)) : Type 0 where
   pub ascend : ascends_from 0 ts ≡ true
   pub below : ids_below n ts ≡ true
 
--- Over so many names: as many columns, with bounds that may be stored; terms in their order; rows and an objective that
--- may be stored; and the rows are counted.
-pub record AreKept (n : ℕ) (aim sum : List (ℕ × Fraction)) (cols : List Column) (stored : Objective) (made : List RowValue) (total : ℕ) : Type 0 where
+-- Over n names, and with at most m names and rows: as many columns, with bounds that may be stored; terms in their order;
+-- an objective and rows that may be stored; and the rows are counted.
+pub record AreKept (m n : ℕ) (aim sum : List (ℕ × Fraction)) (cols : List Column) (stored : Objective) (made : List RowValue) (total : ℕ) : Type 0 where
+  pub few_names : n ≤ m
+  pub few_rows : length made ≤ m
   pub named : n ≡ length cols
   pub bounds : AreStoredBounds cols
   pub goal : AreOrdered n aim
@@ -49,5 +51,15 @@ pub record AreKept (n : ℕ) (aim sum : List (ℕ × Fraction)) (cols : List Col
   pub counted : total ≡ rows_height made + bounds_height (map col_of cols)
 
 -- so it is of all that was taken
-abbrev pub IsKept : Taken → Type 0
-IsKept t = IsKeptStage t.stage × AreKept (length t.names) t.goal t.terms t.columns t.objective t.rows t.count
+abbrev pub IsKept : ℕ → Taken → Type 0
+IsKept m t = IsKeptStage t.stage × AreKept m (length t.names) t.goal t.terms t.columns t.objective t.rows t.count
+
+-- so it is, and there is room for so many items more
+pub record IsReady (m more : ℕ) (t : Taken) : Type 0 where
+  pub kept : IsKept m t
+  pub names : length t.names + more ≤ m
+  pub rows : length t.rows + more ≤ m
+
+-- the most items of a text: its bytes have numbers of 32 bits
+abbrev pub most_items : ℕ
+most_items = 2 ^ 32 - 1

@@ -1,6 +1,6 @@
 //! Tokens of bounds, and names of integer columns.
 
-ghost use Rattle.std.specs.Prelude.{◌≡◌, Some, None, IfOk, OnOk};
+ghost use Rattle.std.specs.Prelude.{◌≡◌, ◌≤◌, ◌^◌, Some, None, IfOk, OnOk};
 ghost use Rattle.lp_grammar.specs.Taking.{
   column_of as column_of_name,
   bounded_by,
@@ -60,14 +60,12 @@ fn bounded(rel: Rel, bound: Option<Frac>, column: Column) -> Column
 {
     match rel {
         Rel::AtMost => Column {
-            is_integer: column.is_integer,
-            low: column.low,
             high: bound,
+            ..column
         },
         Rel::AtLeast => Column {
-            is_integer: column.is_integer,
             low: bound,
-            high: column.high,
+            ..column
         },
         Rel::Equal => {
             let low = bound;
@@ -173,7 +171,8 @@ impl Taking {
 
     /// How many rows more are counted where the column becomes an integer one.
     fn added_rows(&self, id: usize) -> u64
-        ensures { result ≡ added_rows id (taken_of self.now).columns }
+        ensures value { result ≡ added_rows id (taken_of self.now).columns }
+        ensures few { result ≤ 2 }
     {
         if id >= self.columns.len() {
             return 0;
@@ -367,14 +366,12 @@ impl Taking {
 
     /// The name of an integer or a binary column.
     fn take_integer(&mut self, alloc: Global, is_binary: bool, name: &[u8]) -> Result<(), Memory>
+        requires { (taken_of self.old).count ≤ 2 ^ 40 }
         ensures { OnOk result (taken_of self.new ≡ with_integer is_binary (column_of_name (with_one_name name.now (taken_of self.old)) name.now)) }
     {
         self.take_name(name);
         let id = self.column_of(alloc, name)?;
-        let Some(count) = self.count.checked_add(self.added_rows(id)) else {
-            return Err(Memory);
-        };
-        self.count = count;
+        self.count += self.added_rows(id);
         self.make_integer(id, is_binary);
         self.take_count();
         Ok(())
@@ -387,6 +384,7 @@ impl Taking {
         is_binary: bool,
         token: Token<'_>,
     ) -> Result<bool, Memory>
+        requires { (taken_of self.old).count ≤ 2 ^ 40 }
         ensures { IfOk result (λ fits. Leaves (taken_of self.new) fits (name_token (taken_of self.old) is_binary (piece token.entry))) }
     {
         match token {

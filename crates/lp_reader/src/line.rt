@@ -1,11 +1,12 @@
 //! Lines of an LP text.
 
-ghost use Rattle.std.specs.Prelude.{◌≡◌, map, IfOk};
+ghost use Rattle.std.specs.Prelude.{◌≡◌, length, map, IfOk};
 ghost use Rattle.std.specs.List.{list_any};
 ghost use Rattle.text_grammar.specs.Lines.{lines_of};
 ghost use Rattle.lp_grammar.specs.Items.{opening_of, opening_word, begins_barred as begins_barred_of, is_barred_line as is_barred_of, is_barred_token as is_barred_token_of, colon_first, colon_next, items_of};
 ghost use Rattle.lp_grammar.specs.Reading.{with_items, with_line};
 ghost use Rattle.lp_grammar.specs.Tokens.{tokens_of};
+ghost use Rattle.lp_reader.specs.Kept.{most_items, IsReady};
 ghost use Rattle.lp_reader.specs.Taken.{taken_of, line_before, Leaves, LineLeaves};
 ghost use Rattle.lp_tokens.specs.Views.{piece};
 
@@ -93,6 +94,7 @@ fn is_barred_line(line: &[u8]) -> bool
 impl Taking {
     /// Items one after the other; whether they can come here.
     fn take_items(&mut self, alloc: Global, items: Items<'_>) -> Result<bool, Memory>
+        requires { IsReady most_items (length items) (taken_of self.old) }
         ensures { IfOk result (λ fits. Leaves (taken_of self.new) fits (with_items (taken_of self.old) items.entry)) }
     {
         let mut left = items;
@@ -106,6 +108,7 @@ impl Taking {
 
     /// The items of a line before a text; whether they can come here.
     fn take_items_of(&mut self, alloc: Global, line: &[u8], behind: &[u8]) -> Result<bool, Memory>
+        requires { IsReady most_items (length line.now) (taken_of self.old) }
         ensures { IfOk result (λ fits. Leaves (taken_of self.new) fits (with_items (taken_of self.old) (items_of (tokens_of line.now) (colon_next (map tokens_of (lines_of behind.now)))))) }
     {
         match opening(line) {
@@ -129,6 +132,7 @@ impl Taking {
         line: &[u8],
         behind: &[u8],
     ) -> Result<Option<LpCause>, Memory>
+        requires { IsReady most_items (length line.now) (taken_of self.old) }
         ensures { IfOk result (λ cause. LineLeaves (taken_of self.new) cause (with_line (taken_of self.old) (line_before line.now behind.now))) }
     {
         if is_barred_line(line) {

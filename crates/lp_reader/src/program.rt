@@ -6,7 +6,7 @@ ghost use Rattle.lp_rows.specs.declared.columns.Col.{Col};
 ghost use Rattle.lp_grammar.specs.Programs.{AreStored, AreStoredRows, IsStoredRow};
 ghost use Rattle.lp_grammar.specs.Reading.{is_zero as is_zero_of, col_of, end_row, low_row, bound_rows, may_end as may_end_at, is_within, is_empty, milp_of, lp_of};
 ghost use Rattle.lp_reader.specs.Grown.{with_cols, with_rows, Grows};
-ghost use Rattle.lp_reader.specs.Kept.{IsKept, IsStoredBound, AreStoredBounds};
+ghost use Rattle.lp_reader.specs.Kept.{most_items, IsKept, IsStoredBound, AreStoredBounds};
 ghost use Rattle.lp_reader.specs.Taken.{taken_of};
 
 use crate::objective::Objective;
@@ -268,7 +268,7 @@ impl Taking {
 
     // Builds the program that was taken, or none where it passes a limit.
     fn build(&self, alloc: Global) -> Result<Option<Milp>, Memory>
-        requires { IsKept (taken_of self.now) }
+        requires { IsKept most_items (taken_of self.now) }
         ensures { IfOk result (λ milp. milp ≡ (if is_within (milp_of (taken_of self.now)) then Some (milp_of (taken_of self.now)) else None)) }
     {
         let mut milp = MilpBuilder::new(alloc);
@@ -287,7 +287,7 @@ impl Taking {
 
     /// The program that was taken, or none where it passes a limit.
     pub fn into_program(self, alloc: Global) -> Result<Option<LpFile>, Memory>
-        requires { IsKept (taken_of self) }
+        requires { IsKept most_items (taken_of self) }
         ensures { IfOk result (λ program. program ≡ (if is_within (milp_of (taken_of self)) then Some (lp_of (taken_of self)) else None)) }
     {
         let Some(milp) = self.build(alloc)? else {

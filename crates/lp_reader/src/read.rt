@@ -8,6 +8,8 @@ ghost use Rattle.lp_grammar.specs.Programs.{IsMilp};
 ghost use Rattle.milps.specs.Milps.{MilpValue};
 ghost use Rattle.lp_grammar.specs.Spelling.{LpSpells};
 ghost use Rattle.lp_reader.specs.declared.read.LpError.TheVariants.{Memory};
+ghost use Rattle.lp_grammar.specs.Taking.{nothing_taken};
+ghost use Rattle.lp_reader.specs.Kept.{most_items, IsKept};
 ghost use Rattle.lp_reader.specs.Read.{Follows, LinesTell, IsBad};
 ghost use Rattle.lp_reader.specs.Taken.{taken_of};
 
@@ -29,7 +31,9 @@ pub enum LpError {
 impl Taking {
     /// Takes the lines of a text; the number of the line behind the last.
     fn take_lines(&mut self, alloc: Global, text: &[u8]) -> Result<u32, LpError>
-        requires { length text.now < 2 ^ 32 - 1 }
+        requires start { taken_of self.old ≡ nothing_taken }
+        requires short { length text.now < 2 ^ 32 - 1 }
+        ensures kept { IfOk result (λ number. IsKept most_items (taken_of self.new)) }
         ensures lines { IfOk result (Follows text.now (taken_of self.old) (taken_of self.new)) }
         ensures bad { IfErr result (LinesTell text.now (taken_of self.old)) }
     {

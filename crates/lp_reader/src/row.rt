@@ -1,12 +1,13 @@
 //! Tokens of a row.
 
-ghost use Rattle.std.specs.Prelude.{◌≡◌, ◌≤◌, None, Some, IfOk, OnOk, IfSome, true, false};
+ghost use Rattle.std.specs.Prelude.{◌≡◌, ◌≤◌, ◌^◌, None, Some, IfOk, OnOk, IfSome, true, false};
 ghost use Rattle.lp_rows.specs.Rows.{is_storable};
 ghost use Rattle.lp_grammar.specs.Taking.{column_of as column_of_name, with_row_term, with_row as with_one_row, row_of, or_one, turned_if};
 ghost use Rattle.lp_grammar.specs.Reading.{row_token, right_token, with_number as with_one_number, is_minus as is_minus_of};
 ghost use Rattle.milps.specs.Building.{height_of};
 ghost use Rattle.lp_grammar.specs.Tokens.{Name, Sign, Compare};
 ghost use Rattle.lp_tokens.specs.Views.{piece};
+ghost use Rattle.lp_reader.specs.Kept.{AreOrdered};
 ghost use Rattle.lp_reader.specs.Taken.{taken_of, row_size, Leaves};
 
 use crate::scaling::make_row;
@@ -135,11 +136,10 @@ impl Taking {
 
     /// A row is appended.
     fn push_row(&mut self, row: Row) -> Result<(), Memory>
+        requires { (taken_of self.old).count ≤ 2 ^ 40 }
         ensures { OnOk result (taken_of self.new ≡ with_one_row (Some row) (taken_of self.old)) }
     {
-        let Some(count) = self.count.checked_add(rows_counted(row.rel())) else {
-            return Err(Memory);
-        };
+        let count = self.count + rows_counted(row.rel());
         let Ok(()) = self.rows.push(row) else {
             return Err(Memory);
         };
@@ -161,6 +161,8 @@ impl Taking {
 
     /// A row with its relation and its right side.
     fn take_row(&mut self, alloc: Global, rel: Rel, right: Frac) -> Result<(), Memory>
+        requires ordered { AreOrdered (2 ^ 32) (taken_of self.old).terms }
+        requires few { (taken_of self.old).count ≤ 2 ^ 40 }
         ensures { OnOk result (taken_of self.new ≡ with_one_row (row_of (taken_of self.old).terms rel right) (taken_of self.old)) }
     {
         let terms = self.terms.to_vec(alloc)?;
@@ -181,7 +183,9 @@ impl Taking {
         sign: Option<bool>,
         value: Option<Frac>,
     ) -> Result<(), Memory>
-        requires { IfSome value (λ f. is_storable f.num ≡ true) }
+        requires value { IfSome value (λ f. is_storable f.num ≡ true) }
+        requires ordered { AreOrdered (2 ^ 32) (taken_of self.old).terms }
+        requires few { (taken_of self.old).count ≤ 2 ^ 40 }
         ensures { OnOk result (taken_of self.new ≡ with_one_row (row_of (taken_of self.old).terms rel (turned_if (is_minus_of sign) (or_one value))) (with_one_number value (taken_of self.old))) }
     {
         self.take_number(&value);
@@ -196,6 +200,8 @@ impl Taking {
         sign: Option<bool>,
         token: Token<'_>,
     ) -> Result<bool, Memory>
+        requires ordered { AreOrdered (2 ^ 32) (taken_of self.old).terms }
+        requires few { (taken_of self.old).count ≤ 2 ^ 40 }
         ensures { IfOk result (λ fits. Leaves (taken_of self.new) fits (right_token (taken_of self.old) rel sign (piece token.entry))) }
     {
         match (sign, token) {

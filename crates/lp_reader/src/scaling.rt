@@ -1,14 +1,16 @@
 //! Terms in whole numbers.
 
-ghost use Rattle.std.specs.Prelude.{◌≡◌, ◌^◌, ◌<◌, ◌≤◌, ◌++◌, [], unsigned_abs, Some, IfOk, OnOk, IfSome};
+ghost use Rattle.std.specs.Prelude.{◌≡◌, ◌^◌, ◌<◌, ◌≤◌, ◌++◌, [], true, unsigned_abs, Some, IfOk, OnOk, IfSome};
 ghost use Rattle.lp_grammar.specs.Scaling.{scale_with as with_denominator, scale_of, scaled as scaled_by};
+ghost use Rattle.lp_rows.specs.Holding.{ids_below};
+ghost use Rattle.lp_reader.specs.Kept.{AreOrdered};
 ghost use Rattle.lp_grammar.specs.Taking.{row_by, row_of, objective_by, objective_of};
 ghost use Rattle.lp_reader.specs.Stored.{if_storable, if_some_term, stored_on};
 
 use crate::objective::Objective;
 use fractions::Frac;
 use fractions::divisors::gcd_of_magnitudes;
-use lp_rows::{Rel, Row, Terms, is_storable};
+use lp_rows::{Rel, Row, RowError, Terms, is_storable};
 use outcomes::Memory;
 use std::alloc::Global;
 
@@ -87,15 +89,13 @@ fn scaled(scale: u128, fraction: Frac) -> Option<i128>
 
 /// Adds a term at the end, unless its coefficient is 0.
 fn push_term(terms: &mut Terms, alloc: Global, id: usize, coefficient: i128) -> Result<(), Memory>
+    requires { id < 2 ^ 32 }
     ensures { OnOk result (terms.new ≡ terms.old ++ if_some_term (id, coefficient)) }
 {
     if coefficient == 0 {
         return Ok(());
     }
-    let Ok(id) = u32::try_from(id) else {
-        return Err(Memory);
-    };
-    terms.push(alloc, (id, coefficient))
+    terms.push(alloc, (id as u32, coefficient))
 }
 
 /// The terms times the scale, if they may be stored.
@@ -104,7 +104,8 @@ fn stored_terms(
     scale: u128,
     terms: &[(usize, Frac)],
 ) -> Result<Option<Terms>, Memory>
-    requires { scale ≤ 10 ^ 30 }
+    requires small { scale ≤ 10 ^ 30 }
+    requires ids { ids_below (2 ^ 32) terms.now ≡ true }
     ensures { IfOk result (λ stored. stored ≡ stored_on scale [] terms.now) }
 {
     let mut stored = Terms::new(alloc);
@@ -129,7 +130,8 @@ fn row_times(
     rel: Rel,
     right: Frac,
 ) -> Result<Option<Row>, Memory>
-    requires { scale ≤ 10 ^ 30 }
+    requires small { scale ≤ 10 ^ 30 }
+    requires ordered { AreOrdered (2 ^ 32) terms.now }
     ensures { IfOk result (λ row. row ≡ row_by (Some scale) terms.now rel right) }
 {
     let Some(terms) = stored_terms(alloc, scale, terms)? else {
@@ -140,7 +142,10 @@ fn row_times(
     };
     match Row::make(alloc, terms.as_slice(), rel, right) {
         Ok(row) => Ok(Some(row)),
-        Err(_) => Err(Memory),
+        Err(RowError::Memory) => Err(Memory),
+        Err(RowError::Order) => unreachable!(),
+        Err(RowError::Zero) => unreachable!(),
+        Err(RowError::Coefficient) => unreachable!(),
     }
 }
 
@@ -151,6 +156,7 @@ pub fn make_row(
     rel: Rel,
     right: Frac,
 ) -> Result<Option<Row>, Memory>
+    requires { AreOrdered (2 ^ 32) terms.now }
     ensures { IfOk result (λ row. row ≡ row_of terms.now rel right) }
 {
     match common_scale(terms, right) {
@@ -168,6 +174,7 @@ fn objective_times(
 ) -> Result<Option<Objective>, Memory>
     requires some { 0 < scale }
     requires small { scale ≤ 10 ^ 30 }
+    requires ids { ids_below (2 ^ 32) terms.now ≡ true }
     ensures { IfOk result (λ objective. objective ≡ objective_by (Some scale) terms.now constant) }
 {
     let Some(terms) = stored_terms(alloc, scale, terms)? else {
@@ -188,6 +195,7 @@ pub fn make_objective(
     terms: &[(usize, Frac)],
     constant: Frac,
 ) -> Result<Option<Objective>, Memory>
+    requires { ids_below (2 ^ 32) terms.now ≡ true }
     ensures { IfOk result (λ objective. objective ≡ objective_of terms.now constant) }
 {
     match common_scale(terms, constant) {

@@ -1,10 +1,12 @@
 //! Sections, and tokens by where a text stands.
 
-ghost use Rattle.std.specs.Prelude.{◌≡◌, [], None, true, IfOk, OnOk};
+ghost use Rattle.std.specs.Prelude.{◌≡◌, ◌^◌, [], None, true, IfOk, OnOk};
 ghost use Rattle.lp_grammar.specs.Taking.{nothing_pending, or_zero, objective_of, with_objective};
 ghost use Rattle.lp_grammar.specs.declared.stage.Stage.TheVariants.{Goal};
 ghost use Rattle.lp_grammar.specs.Reading.{closed, opened, is_due as is_due_at, is_objective as is_objective_of, is_constraints as is_constraints_of, is_later as is_later_of, with_section, with_token};
 ghost use Rattle.lp_tokens.specs.Views.{piece};
+ghost use Rattle.lp_rows.specs.Holding.{ids_below};
+ghost use Rattle.lp_reader.specs.Kept.{most_items, IsReady};
 ghost use Rattle.lp_reader.specs.Taken.{taken_of, Leaves};
 
 use crate::scaling::make_objective;
@@ -94,6 +96,7 @@ impl Taking {
 
     /// The objective is stored in whole numbers, or noted where it can't be.
     fn store_objective(&mut self, alloc: Global) -> Result<(), Memory>
+        requires { ids_below (2 ^ 32) (taken_of self.old).goal ≡ true }
         ensures { OnOk result (taken_of self.new ≡ with_objective (objective_of (taken_of self.old).goal (or_zero (taken_of self.old).constant)) (taken_of self.old)) }
     {
         let terms = self.goal.to_vec(alloc)?;
@@ -106,6 +109,7 @@ impl Taking {
 
     /// A section is opened.
     fn open(&mut self, alloc: Global, section: Section) -> Result<(), Memory>
+        requires { ids_below (2 ^ 32) (taken_of self.old).goal ≡ true }
         ensures { OnOk result (taken_of self.new ≡ opened section (taken_of self.old)) }
     {
         match section {
@@ -125,6 +129,7 @@ impl Taking {
 
     /// The word of a section; whether it can come here.
     pub fn take_section(&mut self, alloc: Global, section: Section) -> Result<bool, Memory>
+        requires { IsReady most_items 1 (taken_of self.old) }
         ensures { IfOk result (λ fits. Leaves (taken_of self.new) fits (with_section (taken_of self.old) section)) }
     {
         let is_due = is_due(&self.stage, section);
@@ -143,6 +148,7 @@ impl Taking {
         token: Token<'_>,
         is_labelled: bool,
     ) -> Result<bool, Memory>
+        requires { IsReady most_items 1 (taken_of self.old) }
         ensures { IfOk result (λ fits. Leaves (taken_of self.new) fits (with_token (taken_of self.old) (taken_of self.old).stage (piece token.entry) is_labelled)) }
     {
         match self.stage {

@@ -16,8 +16,8 @@
     print(result)                      # best 175, and the values
     assert result.check()
 
-This module makes the model's text, calls `gdp` and reads its answers. The module itself is only tested and not part of what is proved; what `gdp`
-says of the text is. So the text (`plan.text()`) is what to read where much depends on a plan.
+This module makes the model's text, calls `gdp` and reads its answers. The module itself is only tested and not part of what is proved; what
+`gdp` says of the text is. So the text (`plan.text()`) is what to read where much depends on a plan.
 
 Numbers are exact: `int`, `Fraction`, `Decimal`, and text such as `"0.75"` or `"3/5"`; a float is an error that says what to write. `gdp` is
 found by the environment variable `DATEMOUND_GDP`, else on the PATH, else beside the module. Errors are a `DatemoundError`: a `ModelError` for

@@ -6,7 +6,7 @@ import re
 from dataclasses import dataclass, field
 from fractions import Fraction
 from math import lcm
-from typing import Iterator, Mapping, TypeVar, Union
+from typing import Any, Iterator, Mapping, TypeVar, Union
 
 from . import calls
 from .calls import ANSWER, MODEL, MOST_STEPS, POINT, ROUTES
@@ -14,14 +14,13 @@ from .errors import ModelError
 from .exact import Number, exact
 from .expressions import Var
 from .places import Place
-from .program import Ran
 from .propositions import Atom
 from .text import Item, Text, named_item, place_of
 
 T = TypeVar("T")
 
-#: A point: of each variable its number, and of Booleans and disjuncts whether they are true.
-Point = Mapping[Union[Var, Atom, str], Union[Number, bool]]
+#: A point: of each variable its number, and of Booleans and disjuncts whether they are true, by the objects or their names.
+Point = Mapping[Any, Union[Number, bool]]
 
 
 class ByName(Mapping[str, T]):
@@ -148,10 +147,17 @@ class Result:
             raise ModelError(f"there is no certificate to check: {self.stop}")
         return checked(self.model_text, self.certificate)
 
+    def __getitem__(self, key: str | Var | Atom) -> Fraction | bool:
+        """The value of a variable, or whether a Boolean or a disjunct is true."""
+        name = key if isinstance(key, str) else key.name
+        return self.truths[name] if name in self.truths else self.values[name]
+
     def __str__(self) -> str:
-        """The claim, the values, and the Booleans and disjuncts that are true, a line each."""
-        lines = [f"best {self.objective}" if self.status == "best" else f"gave up: {self.stop}" if self.stop else self.status]
-        lines += [f"  {name} = {value}" for name, value in self.values.items()]
+        """The claim, the values, and the Booleans and disjuncts that are true, a line each; a fraction also as a decimal."""
+        lines = [f"gave up: {self.stop}" if self.stop else self.status]
+        if self.objective is not None:
+            lines = [f"best {_shown(self.objective)}"]
+        lines += [f"  {name} = {_shown(value)}" for name, value in self.values.items()]
         lines += [f"  {name}" for name, is_true in self.truths.items() if is_true]
         lines += [f"  step {name} = {value}" for name, value in self.step.items() if value]
         return "\n".join(lines)
@@ -192,7 +198,7 @@ def point_text(text: Text, point: Result | Point) -> str:
     if isinstance(point, Result):
         if not point.values:
             raise ModelError(f"this result has no point to test: it is {point.status}")
-        point = {**point.values, **point.truths}
+        return point_text(text, {name: point[name] for name in (*point.values, *point.truths)})
     values: dict[str, Fraction] = {}
     truths: list[str] = []
     for key, value in point.items():
@@ -211,6 +217,14 @@ def point_text(text: Text, point: Result | Point) -> str:
     lines += [f"val {name} {values[name] * over}" for name in text.variables]
     lines += [f"on {name}" for name in text.truths if name in truths]
     return "".join(f"{line}\n" for line in [*lines, "end"])
+
+
+def _shown(number: Fraction) -> str:
+    """A number, and in parentheses, where it is a fraction, its decimal, which is said where it is rounded."""
+    if number.denominator == 1:
+        return str(number)
+    decimal = format(float(number), ".8g")
+    return f"{number} ({'' if Fraction(decimal) == number else 'about '}{decimal})"
 
 
 def _name_in(text: Text, key: object) -> str:
@@ -258,4 +272,5 @@ def _answered(text: Text, route: str, answer: str) -> Result:
             break
     truths = {name: name in on for name in text.truths}
     objective = Fraction(value) if status == "best" else None
-    return Result(status, route, answer, text, objective, ByName(values, ""), ByName(truths, ""), ByName(steps, "" if steps else "only an endless result has steps"))
+    ray = ByName(steps, "" if steps else "only an endless result has steps")
+    return Result(status, route, answer, text, objective, ByName(values, ""), ByName(truths, ""), ray)

@@ -2,12 +2,12 @@
 
 from __future__ import annotations
 
-from typing import Any, Iterable, Iterator, NoReturn, Union
+from typing import Any, Iterable, Iterator, NoReturn, Self, Union
 
 from .errors import ModelError
 from .expressions import Linear, Row
 from .places import place_of_caller
-from .propositions import Atom, Proposition
+from .propositions import Atom, Connective, Proposition
 
 #: What is added to a model or a disjunct: a row, a proposition, a disjunction, or a list (or another iterable) of such.
 Items = Union[Row, Proposition, "Disjunction", Iterable["Items"]]
@@ -34,6 +34,17 @@ class Block:
                 self.disjunctions.append(item)
             else:
                 self.propositions.append(item)
+
+    def __setattr__(self, name: str, value: object) -> None:
+        """Refuses what would only look as if it were added: `block.c = x <= 3`."""
+        if isinstance(value, (Row, Connective, Disjunction)):
+            raise ModelError(f"`.{name} = {value!r}` adds nothing: write .add(..) for what is to hold")
+        super().__setattr__(name, value)
+
+    def __iadd__(self, item: Items) -> Self:
+        """`block += item` is `block.add(item)`."""
+        self.add(item)
+        return self
 
 
 class Disjunct(Atom, Block):
@@ -97,6 +108,8 @@ def _why_no_item(item: Any) -> str:
         return f"{item} is a truth value of Python: a comparison in which no variable stands makes one, and no row"
     if isinstance(item, Linear):
         return f"{item} is a sum and no row: compare it by <=, == or >=, or make it the goal by minimize or maximize"
+    if isinstance(item, str):
+        return f"{item!r} is text and no row; rows have no names"
     if item is None:
         return "None is no row: a function that makes rows has to return them"
     return f"{item!r} is no row, proposition or disjunction"

@@ -38,12 +38,12 @@ _PROGRAM_FAULTS = {
 }
 
 
-def ask(text: Text, words: Sequence[str], files: Mapping[str, str] = {}, progress: bool | None = None) -> Ran:
+def ask(text: Text, words: Sequence[str], files: Mapping[str, str] | None = None, progress: bool | None = None) -> Ran:
     """Runs a command that reads the model, and gives what it answers: the status 0, or 1 or 3, and a text.
 
     Errors: a `RefusedError` where a text is refused or the model can't be rewritten, a `ProgramError` where the program fails.
     """
-    ran = program.run(words, {MODEL: str(text), **files}, progress)
+    ran = program.run(words, {MODEL: str(text), **(files or {})}, progress)
     if ran.status == 2:
         _refuse_text(text, ran.err.strip())
     if ran.status == 4:
@@ -58,13 +58,17 @@ def compiled(text: Text, choice: str) -> str:
     """The LP text of the model's mixed-integer program."""
     if choice not in CHOICES:
         raise ModelError(f"{choice!r} is no choice: write one of {', '.join(CHOICES)}")
-    return ask(text, ["compile", choice, MODEL]).out
+    ran = ask(text, ["compile", choice, MODEL])
+    if ran.status != 0:
+        raise unexpected(ran)
+    return ran.out
 
 
 def unexpected(ran: Ran) -> ProgramError:
     """The error for an answer that the manual doesn't have."""
     said = (ran.out or ran.err).strip()
-    return ProgramError(f"{program.find_program()} answered what Datemound does not: {said[:200]!r}; is it another program of this name?", ran.status)
+    what = f"{program.find_program()} answered what Datemound does not: {said[:200]!r}"
+    return ProgramError(f"{what}; is it another program of this name?", ran.status)
 
 
 def _refuse_text(text: Text, said: str) -> NoReturn:
@@ -94,5 +98,5 @@ def _refuse_rewrite(text: Text, words: Sequence[str], said: str) -> NoReturn:
         made = f", made at {var.place}" if var is not None else ""
         why = f"no bound for the variable {found[3]}{made}, which {named_item(item)} needs: give it a low and a high bound{otherwise}"
     else:
-        why = f"too wide, a number that belongs to {named_item(item)} would exceed 10^15: narrow the bounds of its variables, or take greater units"
+        why = f"too wide, a number of {named_item(item)} would exceed 10^15: narrow the bounds of its variables, or take greater units"
     raise RefusedError(f"{route}: {why}", found[1], line, item, place_of(item))

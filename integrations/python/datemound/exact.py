@@ -22,6 +22,8 @@ def exact(value: object) -> Fraction:
 
     Errors: a `ModelError` for a float, a truth value, a text that is no number, or anything else.
     """
+    if type(value) is int:
+        return Fraction(value)
     if isinstance(value, bool):
         raise ModelError(f"{value} is a truth value of Python and no number: write {int(value)}")
     if isinstance(value, float):

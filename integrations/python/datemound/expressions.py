@@ -80,7 +80,7 @@ class Linear:
     def __eq__(self, other: Linear | Number) -> Row:  # type: ignore[override]
         return Row(self, "=", as_linear(other))
 
-    def __ne__(self, other: object) -> NoReturn:  # type: ignore[override]
+    def __ne__(self, other: object) -> NoReturn:
         raise ModelError("there are no rows with !=: write a Disjunction of one Disjunct below and one above")
 
     def __lt__(self, other: object) -> NoReturn:
@@ -215,9 +215,10 @@ def quicksum(parts: Iterable[Linear | Number]) -> Sum:
     terms: dict[Var, Fraction] = {}
     constant = _ZERO
     for part in map(as_linear, parts):
-        constant += part.constant
+        if part.constant:
+            constant += part.constant
         for var, number in part.terms.items():
-            terms[var] = terms.get(var, _ZERO) + number
+            terms[var] = terms[var] + number if var in terms else number
     return Sum(terms, constant)
 
 
@@ -242,4 +243,6 @@ def _added(left: Linear, factor: Fraction, right: Linear) -> Sum:
 
 
 def _times(expression: Linear, factor: Fraction) -> Sum:
+    if isinstance(expression, Var):
+        return Sum({expression: factor}, _ZERO)
     return Sum({var: factor * number for var, number in expression.terms.items()}, factor * expression.constant)

@@ -49,6 +49,12 @@ class Model(Block):
         """The model's canonical text, which `gdp format` gives back unchanged. Errors: a `ModelError`."""
         return str(Text(self))
 
+    def __str__(self) -> str:
+        return self.text()
+
+    def __repr__(self) -> str:
+        return f"<Model: rows {len(self.rows)}, disjunctions {len(self.disjunctions)}, logic {len(self.propositions)} outside all disjuncts>"
+
     def solve(self, route: str = "hybrid", steps: int = 100_000, *, progress: bool | None = None) -> Result:
         """The best point with its certificate, or that there is none, or that there is no end, or where the search gave up.
 

@@ -61,15 +61,14 @@ def run(words: Sequence[str], files: Mapping[str, str], progress: bool | None = 
             with open(os.path.join(folder, name), "w", encoding="utf-8", newline="") as file:
                 file.write(text)
         with tempfile.TemporaryFile() as out, tempfile.TemporaryFile() as err:
-            try:
-                child = subprocess.Popen([program, *words], cwd=folder, stdin=subprocess.DEVNULL, stdout=out, stderr=err)
-            except OSError as error:
-                raise ProgramError(f"{program} can't be run: {error.strerror}") from None
             shown = Progress(words, err, sys.stderr.isatty() if progress is None else progress)
+            child = None
             try:
+                child = _started([program, *words], folder, out, err)
                 status = _wait(child, shown)
             except BaseException:
-                _end(child)
+                if child is not None:
+                    _end(child)
                 raise
             finally:
                 shown.close()
@@ -96,7 +95,11 @@ class Progress:
             self.is_shown = True
 
     def close(self) -> None:
-        """Takes the line away."""
+        """Called once, when the program has ended: takes the line away."""
+        self._pass_on_building()
+        self._clear()
+
+    def _clear(self) -> None:
         if self.is_shown:
             self._write("\r\x1b[K")
             self.is_shown = False
@@ -108,7 +111,7 @@ class Progress:
         self.read += len(whole)
         for line in whole.decode(errors="replace").splitlines():
             if line.startswith(_BUILDING):
-                self.close()
+                self._clear()
                 self._write(f"{line}\n")
 
     def _write(self, text: str) -> None:
@@ -117,6 +120,13 @@ class Progress:
             sys.stderr.flush()
         except (OSError, ValueError):
             self.is_on = False
+
+
+def _started(command: list[str], folder: str, out: IO[bytes], err: IO[bytes]) -> subprocess.Popen[bytes]:
+    try:
+        return subprocess.Popen(command, cwd=folder, stdin=subprocess.DEVNULL, stdout=out, stderr=err)
+    except OSError as error:
+        raise ProgramError(f"{command[0]} can't be run: {error.strerror}") from None
 
 
 def _wait(child: subprocess.Popen[bytes], shown: Progress) -> int:

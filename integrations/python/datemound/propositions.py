@@ -11,7 +11,7 @@ from typing import Iterable, Iterator, NoReturn, Union
 
 from .errors import ModelError
 from .names import checked_name
-from .places import place_of_caller
+from .places import Place, place_of_caller
 
 #: A proposition, or a list (or another iterable) of them.
 Propositions = Union["Proposition", Iterable["Propositions"]]
@@ -22,13 +22,15 @@ _SERIALS = itertools.count()
 
 
 class Proposition:
-    """What is true or false in a plan. `levels` and `nodes` are its depth and its size, a name having one of each."""
+    """What is true or false in a plan. `levels` and `nodes` are its depth and its size, a name having one of each; `place` is
+    the line of Python that made it."""
 
     __slots__ = ()
     __hash__ = object.__hash__
 
     levels: int
     nodes: int
+    place: Place
 
     def text(self) -> str:
         """The proposition in a model's text, without the word `logic`."""
@@ -41,16 +43,32 @@ class Proposition:
     def __invert__(self) -> Connective:
         return lnot(self)
 
+    def land(self, *others: Propositions) -> Connective:
+        """`p.land(q)` is `land(p, q)`, and so with the other connectives that Pyomo has as methods."""
+        return land(self, *others)
+
+    def lor(self, *others: Propositions) -> Connective:
+        return lor(self, *others)
+
+    def implies(self, conclusion: Proposition) -> Connective:
+        return implies(self, conclusion)
+
+    def equivalent_to(self, other: Proposition) -> Connective:
+        return equivalent(self, other)
+
+    def xor(self, other: Proposition) -> Connective:
+        return xor(self, other)
+
     def __bool__(self) -> NoReturn:
         raise ModelError(
             f"{self} is used as a truth value of Python, but is known only once the model is solved: write land(a, b), lor(a, b) and lnot(a) "
             "for `a and b`, `a or b` and `not a`"
         )
 
-    def __eq__(self, other: object) -> NoReturn:  # type: ignore[override]
+    def __eq__(self, other: object) -> NoReturn:
         raise ModelError("propositions are not compared by == and !=: write equivalent(a, b) or xor(a, b)")
 
-    __ne__ = __eq__  # type: ignore[assignment]
+    __ne__ = __eq__
 
     def refuse_as_number(self, *_: object) -> NoReturn:
         """Errors: a `ModelError` always."""

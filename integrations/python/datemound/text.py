@@ -99,7 +99,8 @@ class _Writer:
 
     def refuse_names_twice(self) -> None:
         found: dict[str, Var | Atom] = {}
-        for named in (*self.variables, *self.booleans, *self.disjuncts.values()):
+        everything: list[Var | Atom] = [*self.variables, *self.booleans, *self.disjuncts.values()]
+        for named in everything:
             if named.name in found:
                 raise ModelError(_twice(found[named.name], named))
             found[named.name] = named
@@ -140,8 +141,8 @@ class _Writer:
             return f"logic names the {_kind(atom)} made at {atom.place}, which stands in no Disjunction of the model"
         own = block.name if isinstance(block, Disjunct) else ""
         return (
-            f"logic in the Disjunct {own!r} names the Disjunct {atom.name!r}, which comes later in the model: add the Disjunction of {atom.name!r} first, "
-            f"or say it outside: implies({own}, ..)"
+            f"logic in the Disjunct {own!r} names the Disjunct {atom.name!r}, which comes later in the model: "
+            f"add the Disjunction of {atom.name!r} first, or say it outside: implies({own}, ..)"
         )
 
     def put(self, text: str, item: Item) -> None:
@@ -153,7 +154,8 @@ def _kind(named: Var | Atom) -> str:
 
 
 def _twice(first: Var | Atom, second: Var | Atom) -> str:
-    return f"the name {first.name!r} is taken twice: by the {type(first).__name__} made at {first.place} and the {type(second).__name__} made at {second.place}"
+    made = [f"the {type(named).__name__} made at {named.place}" for named in (first, second)]
+    return f"the name {first.name!r} is taken twice: by {made[0]} and {made[1]}"
 
 
 def place_of(item: Item) -> Place | None:

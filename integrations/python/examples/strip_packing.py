@@ -1,7 +1,7 @@
 """Four labels are cut from a roll, none turned, none over another: how much of the roll is enough? Centimetres.
 
-The roll is 10 cm wide, and 12 cm of it are left. The problem is strip packing as Sawaya and Grossmann (2005) state it, with labels of its own: of
-two labels one is before the other, or below it where both fit beside one another.
+The roll is 10 cm wide, and 12 cm of it are left. The problem is strip packing as Sawaya and Grossmann (2005) state it, with labels of its own:
+of two labels one is before the other, or below it where both fit beside one another.
 """
 
 from itertools import combinations

@@ -26,7 +26,7 @@ class Solved(unittest.TestCase):
         self.assertIsNone(result.stop)
         self.assertIsNone(result.log)
         self.assertIn("tree\ntruth 0\nbounded 5 0:6 1:1\n", result.certificate)
-        self.assertEqual(str(result), "best 139/2\n  power = 75\n  cost = 139/2\n  large_customer")
+        self.assertEqual(str(result), "best 139/2 (69.5)\n  power = 75\n  cost = 139/2 (69.5)\n  large_customer")
         for number in (result.objective, *result.values.values()):
             self.assertIs(type(number), Fraction)
         self.assertTrue(result.check())
@@ -38,8 +38,17 @@ class Solved(unittest.TestCase):
         model.maximize(x)
         result = model.solve()
         self.assertEqual((result.values[x], result.values["x"], result.truths[a]), (3, 3, True))
-        with self.assertRaises(KeyError):
-            result.values["y"]
+        self.assertEqual((result[x], result["x"], result[a], result["a"]), (3, 3, True, True))
+        for ask in (lambda: result.values["y"], lambda: result["y"], lambda: result[Var("y")]):
+            with self.assertRaises(KeyError):
+                ask()
+
+    def test_shown_with_decimals(self):
+        x, y = Var("x", 0, "1/3"), Var("y", 0, "1.5")
+        model = Model()
+        model.declare(x, y)
+        model.maximize(x + y)
+        self.assertEqual(str(model.solve()), "best 11/6 (about 1.8333333)\n  x = 1/3 (about 0.33333333)\n  y = 3/2 (1.5)")
 
     def test_empty(self):
         x = Var("x", 0, 3)
@@ -194,7 +203,7 @@ class Refused(unittest.TestCase):
         x, y = Var("x"), Var("y")
         model = Model(x <= 1)
         model.add(x + y <= 10**15 + 1)  # too great
-        self.assert_refused(model.solve, "Number", model.rows[1], line_of("too great"), "gdp refuses `row 1 x + 1 y <= 1000000000000001`", "exceeds 10^15")
+        self.assert_refused(model.solve, "Number", model.rows[1], line_of("too great"), "`row 1 x + 1 y <= 1000000000000001`", "exceeds 10^15")
         for call in (lambda: model.test({x: 1, y: 1}), model.compile, lambda: model.check("")):
             with self.assertRaises(RefusedError):
                 call()
@@ -242,7 +251,8 @@ class Refused(unittest.TestCase):
         household = Disjunct("household", cost >= "1.2" * power)  # needs it
         model = Model(Disjunction(household))
         line = line_of("needs it")
-        self.assert_refused(lambda: model.solve("bigm"), "no bound", household.rows[0], line, "bigm: no bound for the variable power", "route 'logic'")
+        words = ("bigm: no bound for the variable power", "route 'logic'")
+        self.assert_refused(lambda: model.solve("bigm"), "no bound", household.rows[0], line, *words)
         self.assert_refused(lambda: model.compile("bigm"), "no bound", household.rows[0], line, "give it a low and a high bound")
         self.assert_refused(lambda: model.solve("hull"), "no bound", model.disjunctions[0], line + 1)
 

@@ -21,6 +21,9 @@ WRITTEN = [
     (xor(p, lnot(p)), "xor(p, not(p))"),
     (exactly(0, p), "exactly(0, p)"),
     (atleast(2, p, p, q), "atleast(2, p, p, q)"),
+    (p.implies(a), "implies(p, a)"),
+    (a.land(p, [q]), "and(a, p, q)"),
+    (p.lor(q).equivalent_to(p.xor(a)), "equivalent(or(p, q), xor(p, a))"),
     (atmost(1000, {"x": p, "y": q}.values()), "atmost(1000, p, q)"),
 ]
 

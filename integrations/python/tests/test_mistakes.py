@@ -3,7 +3,7 @@
 import unittest
 
 import datemound
-from datemound import Boolean, Disjunct, Disjunction, Model, ModelError, Var, land
+from datemound import Boolean, Disjunct, Model, ModelError, Var, land
 
 # Each is run where x, y are variables, p, q Booleans, a, b disjuncts that are in no model, and m is a model.
 MISTAKES = [
@@ -51,7 +51,14 @@ MISTAKES = [
     ("m.add(x)", "is a sum and no row"),
     ("m.add(2 <= 3)", "a comparison in which no variable stands"),
     ("m.add(None)", "None is no row", "return"),
-    ("m.add('x <= 3')", "is no row, proposition or disjunction"),
+    ("m.add('x <= 3')", "is text and no row"),
+    ("m += x <= 3, 'c1'", "rows have no names"),
+    ("m += x + y", "is a sum and no row", "minimize or maximize"),
+    ("m.c = x <= 3", "`.c = <row 1 x <= 3>` adds nothing", ".add(..)"),
+    ("a.c = x <= 3", "adds nothing"),
+    ("m.d = Disjunction(a, b)", "adds nothing"),
+    ("m.l = implies(p, q)", "adds nothing"),
+    ("m.add(3)", "is no row, proposition or disjunction"),
     ("m.add(m)", "is no row, proposition or disjunction"),
     ("m.declare(a)", "no Var or Boolean"),
     ("m.minimize(x); m.maximize(y)", "has a goal, `min 1 x`, made at <mistake>:1"),
@@ -128,6 +135,12 @@ class Mistakes(unittest.TestCase):
         with self.assertRaises(ModelError):
             model.add(x <= 4, [x >= 1, x + 1])
         self.assertEqual(model.text(), "gdp 1\nvar x real -inf inf\nmin 0\nrow 1 x <= 3\n")
+
+    def test_a_namespace_is_no_mistake(self):
+        model = Model()
+        model.x, model.p, model.a = Var("x"), Boolean("p"), Disjunct("a")
+        model.twice = 2 * model.x
+        self.assertEqual(Model(model.twice <= 3).text(), "gdp 1\nvar x real -inf inf\nmin 0\nrow 2 x <= 3\n")
 
     def test_land_in_a_list_is_none(self):
         self.assertEqual(land([Boolean("p")]).text(), "and(p)")

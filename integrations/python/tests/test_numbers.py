@@ -60,7 +60,8 @@ class Numbers(unittest.TestCase):
 
     def test_refused_wherever_a_number_stands(self):
         x = Var("x")
-        for make in (lambda: x + 0.1, lambda: 0.1 - x, lambda: 0.1 * x, lambda: x / 0.1, lambda: x <= 0.1, lambda: 0.1 == x, lambda: Var("y", 0.1), lambda: Var("y", high=0.1)):
+        sums = (lambda: x + 0.1, lambda: 0.1 - x, lambda: 0.1 * x, lambda: x / 0.1)
+        for make in (*sums, lambda: x <= 0.1, lambda: 0.1 == x, lambda: Var("y", 0.1), lambda: Var("y", high=0.1)):
             with self.assertRaises(ModelError) as caught:
                 make()
             self.assertIn("0.1 is a float", str(caught.exception))

@@ -42,7 +42,7 @@ class WithScripts(unittest.TestCase):
 
     def start(self, program, code, **more):
         """A Python of its own that runs the code, with the script as its program and a folder for temporary files of its own."""
-        around = {**os.environ, "DATEMOUND_GDP": program, "PYTHONPATH": str(FOLDER), "TMPDIR": str(self.folder / "tmp"), "PYTHONDONTWRITEBYTECODE": "1"}
+        around = {**os.environ, "DATEMOUND_GDP": program, "PYTHONPATH": str(FOLDER), "TMPDIR": str(self.folder / "tmp")}
         return subprocess.Popen([sys.executable, "-c", PLAN + code], env=around, stdin=subprocess.DEVNULL, **more)
 
     def assert_no_file_left(self):
@@ -115,7 +115,7 @@ class Shown(WithScripts):
         shown = os.read(ours, 100_000).decode()
         os.close(ours)
         self.assertEqual(out, b"empty\n")
-        self.assertIn("gdp solve hybrid 7 model.gdp: 1 s, and goes on (Ctrl-C ends it)", shown)
+        self.assertRegex(shown, r"gdp solve hybrid 7 model\.gdp: [0-9]+ s, and goes on \(Ctrl-C ends it\)")
         self.assertTrue(shown.endswith("\r\x1b[K"))
         self.assert_no_file_left()
 
@@ -132,7 +132,7 @@ class Shown(WithScripts):
 class Interrupted(WithScripts):
     def test_ctrl_c(self):
         """Ctrl-C ends the program too, and leaves no file."""
-        program = self.script(f"echo $$ > {self.folder}/at; mv {self.folder}/at {self.folder}/pid; exec sleep 60")
+        program = self.script(f"sleep 1; echo $$ > {self.folder}/at; mv {self.folder}/at {self.folder}/pid; exec sleep 60")
         child = self.start(program, "model.solve()", stdout=subprocess.DEVNULL, stderr=subprocess.PIPE)
         until = time.monotonic() + 30
         while not (self.folder / "pid").exists() and time.monotonic() < until:
@@ -147,7 +147,7 @@ class Interrupted(WithScripts):
         self.assert_no_file_left()
 
     def test_a_program_that_does_not_end_at_once(self):
-        program = self.script(f"trap '' TERM; echo $$ > {self.folder}/at; mv {self.folder}/at {self.folder}/pid; while :; do sleep 0.1; done")
+        program = self.script(f"trap '' TERM; sleep 1; echo $$ > {self.folder}/at; mv {self.folder}/at {self.folder}/pid; while :; do sleep 0.1; done")
         child = self.start(program, "model.solve()", stdout=subprocess.DEVNULL, stderr=subprocess.DEVNULL)
         until = time.monotonic() + 30
         while not (self.folder / "pid").exists() and time.monotonic() < until:

@@ -37,7 +37,7 @@ class Texts(unittest.TestCase):
         self.assert_formatted(night_shift_model())
 
     def test_order(self):
-        """Variables and Booleans in the order in which they were made; rows, choices and logic of a block in the order in which they were added."""
+        """Variables and Booleans in the order in which they were made; rows, choices and logic of a block as they were added."""
         x, p, y, q = Var("x"), Boolean("p"), Var("y"), Boolean("q")
         model = Model()
         model.add(xor(q, p))
@@ -69,9 +69,19 @@ class Texts(unittest.TestCase):
         self.assertEqual(str(before), "gdp 1\nmin 0\ndisjunction xor\ndisjunct a\nend\nend\n")
         self.assertEqual(
             model.text(),
-            "gdp 1\nvar x real -inf inf\nmin 0\ndisjunction xor\ndisjunct a\nrow 1 x <= 3\ndisjunction xor\ndisjunct b\nend\nend\nlogic not(a)\nend\nend\n",
+            "gdp 1\nvar x real -inf inf\nmin 0\ndisjunction xor\ndisjunct a\nrow 1 x <= 3\n"
+            "disjunction xor\ndisjunct b\nend\nend\nlogic not(a)\nend\nend\n",
         )
         self.assert_formatted(model)
+
+    def test_added_by_the_operator(self):
+        x, a = Var("x"), Disjunct("a")
+        model = Model()
+        model += x <= 3
+        model += Disjunction(a), [x >= 0]
+        a += x <= 2
+        self.assertEqual(str(model), Model(x <= 3, Disjunction(Disjunct("a", x <= 2)), x >= 0).text())
+        self.assertEqual(repr(model), "<Model: rows 2, disjunctions 1, logic 0 outside all disjuncts>")
 
     def test_used_in_two_models(self):
         x, a = Var("x", 0, 1), Disjunct("a")

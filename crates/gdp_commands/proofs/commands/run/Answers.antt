@@ -1,4 +1,4 @@
-use Rattle.std.proofs.Common.{rules, ◌≡◌, subst}
+use Rattle.std.proofs.Common.{◌≡◌, subst}
 use Rattle.gdp_commands.specs.Answers.{Says}
 use Rattle.gdp_commands.specs.Command.{form_of}
 use Rattle.gdp_commands.specs.Replies.{text_of}

@@ -1,0 +1,98 @@
+#!/usr/bin/env python3
+"""Measures what a step of a search takes, and whether a long search slows down.
+
+`steps.py` prints two tables. The first sets the processor time of a step of `solve bigm` on plants beside that of an exchange of
+`simplex_bench` on the first tableau of the same program. The second has the steps a second in the first and in the last tenth of
+searches that are stopped after 300,000 steps, with their peak memory. A run of fewer steps is taken off, so that reading the
+model counts for neither; what is written at the end, the log, counts for each step.
+"""
+
+import pathlib
+import tempfile
+
+import plants
+from runs import PROGRAM, ROOT, in_turns, machine, mean, run
+
+TURNS = 3
+MOVES = str(ROOT / "crates" / "simplex_bench" / "out" / "simplex_bench")
+# Sizes with steps that do not suffice there, and how often the moves over the first tableau are made.
+SIZES = {6: (2_000, 400), 10: (20_000, 150)}
+SEEDS = (1, 2, 3)
+# Routes, seeds and sizes of searches that take more than 300,000 steps.
+LONG = [("bigm", 1, 15), ("logic", 2, 20)]
+
+
+def standard_form(program: str) -> str:
+    """The standard form of an LP text that `compile` wrote, whose columns are all non-negative: rows of at most, and the goal."""
+    goal: list[tuple[int, int]] = []
+    rows: list[list[tuple[int, int]]] = []
+    ends: list[tuple[str, int]] = []
+    sign = -1 if "\nMaximize\n" in f"\n{program}" else 1
+    for line in program.splitlines():
+        words = line.split()
+        if words[:1] and words[0][0] == "r" and line.endswith(":"):
+            rows.append([])
+        elif len(words) == 3 and words[0] in "+-":
+            term = (int(words[2][1:]), int(words[0] + words[1]))
+            (rows[-1] if rows else goal).append(term)
+        elif words and words[0] in ("<=", ">=", "="):
+            ends.append((words[0], int(words[1])))
+    listed = []
+    for terms, (relation, right) in zip(rows, ends):
+        for factor in {"<=": (1,), ">=": (-1,), "=": (1, -1)}[relation]:
+            listed.append(listing([(at, factor * c) for at, c in terms if c], factor * right))
+    return "\n".join([f"{len(goal)} {len(listed)}", *listed, listing([(at, sign * c) for at, c in goal if c]), ""])
+
+
+def listing(terms: list[tuple[int, int]], *ends: int) -> str:
+    return " ".join(map(str, [len(terms), *(part for term in terms for part in term), *ends]))
+
+
+def beside(folder: pathlib.Path) -> None:
+    """The table of a step beside an exchange."""
+    model, form = str(folder / "model"), str(folder / "form")
+    ratios = []
+    print("| size, seed | moves at the first tableau | an exchange there, µs | steps | a step, µs | over it |")
+    print("|---|---|---|---|---|---|")
+    for size, (steps, count) in SIZES.items():
+        for seed in SEEDS:
+            pathlib.Path(model).write_text(plants.text(seed, size))
+            pathlib.Path(form).write_text(standard_form(run([PROGRAM, "compile", "bigm", model]).out.decode()))
+            commands = {"start": [MOVES, form, "0"], "moves": [MOVES, form, str(count)]}
+            commands |= {name: [PROGRAM, "solve", "bigm", words, model] for name, words in (("one", "1"), ("many", str(steps)))}
+            best = in_turns(commands, TURNS)
+            made = best["start"].out.count(b"\n") - 1
+            if best["many"].status != 3:
+                print(f"| {size}, {seed} | {made} | | ended before {steps:,} | | |")
+                continue
+            exchange = (best["moves"].busy - best["start"].busy) / (made * count)
+            step = (best["many"].busy - best["one"].busy) / (steps - 1)
+            ratios.append(step / exchange)
+            print(f"| {size}, {seed} | {made} | {1e6 * exchange:.2f} | {steps:,} | {1e6 * step:.2f} | {ratios[-1]:.2f} |", flush=True)
+    print(f"| geometric mean | | | | | {mean(ratios):.2f} |")
+
+
+def long_runs(folder: pathlib.Path) -> None:
+    """The table of the first and the last tenth."""
+    model = str(folder / "model")
+    print("\n| route | size, seed | first tenth, steps a second | last tenth | over it | peak memory | log |")
+    print("|---|---|---|---|---|---|---|")
+    for route, seed, size in LONG:
+        pathlib.Path(model).write_text(plants.text(seed, size))
+        budgets = (1, 30_000, 270_000, 300_000)
+        best = in_turns({str(steps): [PROGRAM, "solve", route, str(steps), model] for steps in budgets}, TURNS)
+        if best["300000"].status != 3:
+            print(f"| {route} | {size}, {seed} | ended with status {best['300000'].status} | | | | |")
+            continue
+        first = 30_000 / (best["30000"].busy - best["1"].busy)
+        last = 30_000 / (best["300000"].busy - best["270000"].busy)
+        whole = best["300000"]
+        told = f"{first:,.0f} | {last:,.0f} | {last / first:.2f} | {whole.memory / 2**20:.0f} MiB | {len(whole.out) / 2**20:.1f} MiB"
+        print(f"| {route} | {size}, {seed} | {told} |", flush=True)
+
+
+if __name__ == "__main__":
+    print(f"{machine()}; the least processor time of {TURNS}\n")
+    with tempfile.TemporaryDirectory() as temporary:
+        beside(pathlib.Path(temporary))
+        long_runs(pathlib.Path(temporary))
