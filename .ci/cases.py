@@ -3,6 +3,7 @@
 import os
 
 import compile_cases
+import lp_cases
 import make_cases
 import page_cases
 import solve_cases
@@ -566,7 +567,7 @@ def words():
     table = [[], ["test"], ["test", "M"], ["test", "M", "P", "P"], ["Test", "M", "P"], ["tes", "M", "P"], ["test ", "M", "P"]]
     table += [["", "M", "P"], ["M", "P"], ["M", "test", "P"], ["--", "test", "M", "P"], ["--help"], ["testing", "M", "P"]]
     table += [["format"], ["format", "M", "P"], ["Format", "M"], ["M", "format"], ["test", "format"]]
-    refused = [Case(f"words: {line}", line, files, 7, err=b"words refused\n") for line in [*table, ["lp", "100", "M"]]]
+    refused = [Case(f"words: {line}", line, files, 7, err=b"words refused\n") for line in table]
     return refused + [Case("words: no text of Unicode", ["test", b"M\xff", "P"], files, 9)]
 
 
@@ -716,5 +717,6 @@ def cases(root):
     """The whole table."""
     told = verdicts() + spellings() + refusals() + choices() + formats() + truths() + propositions() + words() + reads() + sizes() + streams() + examples(root)
     told += compile_cases.compile_rows() + compile_cases.examples(root) + solve_cases.solve_rows() + solve_cases.examples(root)
-    told += make_cases.make_rows() + page_cases.pages(root)
-    return checked(told) + drawn(600) + compile_cases.drawn() + solve_cases.drawn() + make_cases.drawn() + solve_cases.stepped(root)
+    told += lp_cases.lp_rows() + page_cases.pages(root) + lp_cases.plan_rows(root) + make_cases.make_rows()
+    by_chance = drawn(600) + compile_cases.drawn() + solve_cases.drawn() + lp_cases.drawn() + lp_cases.compiled() + make_cases.drawn()
+    return checked(told) + by_chance + solve_cases.stepped(root)

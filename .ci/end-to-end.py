@@ -20,6 +20,7 @@ import time
 sys.dont_write_bytecode = True
 import certificate_cases  # noqa: E402
 import explain_cases  # noqa: E402
+import lp_cases  # noqa: E402
 import lp_solvers  # noqa: E402
 from case import CLOSED, FULL, GONE  # noqa: E402
 from cases import cases  # noqa: E402
@@ -143,7 +144,7 @@ def rows(program, table):
 
 def ask_solvers(table):
     """Gives the texts of the table with which glpsol has a complaint, and those of which glpsol or cbc finds another optimum."""
-    wrong, known = [], list(optima())
+    wrong, known = [], [*optima(), *lp_cases.optima(ROOT)]
     with concurrent.futures.ThreadPoolExecutor() as pool:
         if lp_solvers.has_glpsol():
             texts = lp_texts(table)

@@ -4,7 +4,7 @@ import re
 
 from case import Case
 
-PAGES = ("docs/FORMATS.md",)
+PAGES = ("docs/FORMATS.md", "examples/lp/README.md", "integrations/pulp/README.md")
 # A call that a page names above what it writes.
 CALL = re.compile(r"\./gdp ((?:lp [0-9]+ [\w./]+)|(?:make [0-9]+ [0-9]+)|(?:bench \w+ [0-9]+ [0-9]+ [0-9]+))`? writes:")
 

@@ -1,0 +1,16 @@
+\* knapsack *\
+Maximize
+worth: 31 take_0 + 16 take_1 + 25 take_2 + 9 take_3 + 40 take_4 + 15 take_5
+ + 27 take_6
+Subject To
+volume: 12 take_0 + 7 take_1 + 9 take_2 + 4 take_3 + 15 take_4 + 6 take_5
+ + 11 take_6 <= 37
+Binaries
+take_0
+take_1
+take_2
+take_3
+take_4
+take_5
+take_6
+End

@@ -1,0 +1,23 @@
+\* Problem: Unknown *\
+
+Maximize
+ flow: + a_b + a_c
+
+Subject To
+ node_b: + a_b - b_d + c_b = 0
+ node_c: + a_c - c_b - c_e + d_c = 0
+ node_d: + b_d - d_c - d_f + e_d = 0.25
+ node_e: + c_e - e_d - e_f = 0
+
+Bounds
+ 0 <= a_b <= 16
+ 0 <= a_c <= 13
+ 0 <= b_d <= 12
+ c_b = 1.125
+ 0 <= c_e <= 14
+ 0 <= d_c <= 9
+ 0 <= d_f <= 20
+ 0 <= e_d <= 7
+ 0 <= e_f <= 4
+
+End
