@@ -714,6 +714,7 @@ def drawn(count):
 
 def cases(root):
     """The whole table."""
+    solve_cases.check_searches(root)
     told = verdicts() + spellings() + refusals() + choices() + formats() + truths() + propositions() + words() + reads() + sizes() + streams() + examples(root)
     told += compile_cases.compile_rows() + compile_cases.examples(root) + solve_cases.solve_rows() + solve_cases.examples(root)
     told += make_cases.make_rows() + page_cases.pages(root)
