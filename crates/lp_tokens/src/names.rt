@@ -1,6 +1,6 @@
 //! Names of columns, in the order of their first appearance.
 
-ghost use Rattle.std.specs.Prelude.{◌≡◌, None, [], ◌∷◌, ◌++◌, length, ◌≤◌, get_or, OnOk, OnErr};
+ghost use Rattle.std.specs.Prelude.{◌≡◌, ◌<◌, None, [], ◌∷◌, ◌++◌, length, ◌≤◌, get_or, OnOk, OnErr};
 ghost use Rattle.std.specs.Option.{MatchOption};
 ghost use Rattle.lp_grammar.specs.Reading.{is_empty};
 ghost use Rattle.lp_grammar.specs.Taking.{place_from};
@@ -60,7 +60,7 @@ impl Names {
 
     /// The name with this number, if there is one.
     pub fn get(&self, id: usize) -> Option<&[u8]>
-        ensures { MatchOption result (length self.now ≤ id) (λ name. name.now ≡ get_or self.now id name.now) }
+        ensures { MatchOption result (length self.now ≤ id) (λ name. (id < length self.now) × (name.now ≡ get_or self.now id name.now)) }
     {
         match self.set.get_index(id) {
             None => None,
