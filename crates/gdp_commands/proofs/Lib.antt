@@ -5,6 +5,7 @@ mod Counts
 mod Delivered
 mod FiveWords
 mod FourWords
+mod LpLaws
 mod MakeLaws
 mod OneAnswer
 mod OneRead
@@ -14,6 +15,7 @@ mod ReadOnce
 mod SolveLaws
 mod Solving
 mod Spelled
+mod Searching
 mod Testing
 mod Unread
 mod Unshelved

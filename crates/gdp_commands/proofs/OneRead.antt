@@ -11,13 +11,14 @@ use Rattle.gdp_commands.specs.Answers.{IsReplyTo, Says}
 use Rattle.gdp_commands.specs.Check.{CheckSays}
 use Rattle.gdp_commands.specs.Compile.{CompileSays}
 use Rattle.gdp_commands.specs.Format.{FormatSays}
+use Rattle.gdp_commands.specs.Lp.{LpSays}
 use Rattle.gdp_commands.specs.Replies.{text_of}
 use Rattle.gdp_commands.specs.Solve.{SolveSays}
 use Rattle.gdp_commands.specs.Statuses.{IsWorked}
 use Rattle.gdp_commands.specs.Table.{Answer, For}
 use Rattle.gdp_commands.specs.Test.{TestSays}
 use Rattle.gdp_commands.specs.Words.{Form}
-use Rattle.gdp_commands.specs.Words.Form.{Test, Format, Compile, Solve, Check}
+use Rattle.gdp_commands.specs.Words.Form.{Test, Format, Compile, Solve, Check, Lp}
 
 -- the table of the text that was read is that of a text behind the name
 one_read : (form : Form) (contents : Contents) (before now : List ℕ → ℕ) (model model_text : List ℕ) (below : List ℕ → Answer) (result : Result Reply Memory) →
@@ -52,6 +53,13 @@ pub solve_read : (route : Route) (steps : ℕ) (contents : Contents) (before now
     IfOk result (λ reply. IsReplyTo (Solve route steps model) contents before now reply.status (text_of reply))
 solve_read route steps contents before now model model_text result =
     one_read (Solve route steps model) contents before now model model_text (SolveSays route steps model) result (λ status text says. says)
+
+pub lp_read : (steps : ℕ) (contents : Contents) (before now : List ℕ → ℕ) (file text : List ℕ) (result : Result Reply Memory) →
+    IsBehind contents file text → IfOk result (λ reply. IsWorked reply.status) →
+    IfOk result (λ reply. LpSays steps file text reply.status (text_of reply)) →
+    IfOk result (λ reply. IsReplyTo (Lp steps file) contents before now reply.status (text_of reply))
+lp_read steps contents before now file text result =
+    one_read (Lp steps file) contents before now file text (LpSays steps file) result (λ status text says. says)
 
 -- the table of two texts that were read is that of texts behind the names
 both_read : (form : Form) (contents between : Contents) (before now : List ℕ → ℕ) (model other model_text other_text : List ℕ) (below : List ℕ → List ℕ → Answer) (result : Result Reply Memory) →

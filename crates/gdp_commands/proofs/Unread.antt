@@ -12,7 +12,7 @@ use Rattle.gdp_commands.specs.Replies.{ReadFailed, text_of}
 use Rattle.gdp_commands.specs.Statuses.{IsWorked}
 use Rattle.gdp_commands.specs.Texts.{IsLong, IsLonger, IsLongerBehind}
 use Rattle.gdp_commands.specs.Words.{Form, IsRead}
-use Rattle.gdp_commands.specs.Words.Form.{Test, Format, Compile, Solve, Check}
+use Rattle.gdp_commands.specs.Words.Form.{Test, Format, Compile, Solve, Check, Lp}
 use Rattle.gdp_commands.specs.declared.replies.Reply.{Reply}
 use Rattle.answers.specs.declared.answer.Route.{Route}
 use Rattle.hull_rewrite.specs.declared.choices.Choice.{Choice}
@@ -82,6 +82,14 @@ pub solve_unread : (route : Route) (steps : ℕ) (contents : Contents) (before n
     IfOk result (λ reply. IsReplyTo (Solve route steps model) contents before now reply.status (text_of reply))
 solve_unread route steps contents before now model error result =
     one_unread (Solve route steps model) contents before now model error result (λ text behind long. (text, behind, inl (long, (refl, refl)))) refl tt
+
+-- and `lp`
+pub lp_unread : (steps : ℕ) (contents : Contents) (before now : List ℕ → ℕ) (file : List ℕ) (error : ReadAllError) (result : Result Reply Memory) →
+    (error ≡ Error.TooLong → IsLongerBehind 8388608 contents file) → (error ≡ Error.Read → Rose (before file) (now file)) →
+    IfOk result (λ reply. ReadFailed error file reply.status (text_of reply)) →
+    IfOk result (λ reply. IsReplyTo (Lp steps file) contents before now reply.status (text_of reply))
+lp_unread steps contents before now file error result =
+    one_unread (Lp steps file) contents before now file error result (λ text behind long. (text, behind, inl (long, (refl, refl)))) refl tt
 
 -- what a command that reads two texts answers where the first was not read
 first_unread : (form : Form) (contents : Contents) (before now : List ℕ → ℕ) (model other : List ℕ) (error : ReadAllError) (result : Result Reply Memory) →

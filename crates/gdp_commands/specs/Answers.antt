@@ -8,6 +8,7 @@ use Rattle.gdp_commands.specs.Bench.{BenchSays}
 use Rattle.gdp_commands.specs.Check.{CheckSays}
 use Rattle.gdp_commands.specs.Compile.{CompileSays}
 use Rattle.gdp_commands.specs.Format.{FormatSays}
+use Rattle.gdp_commands.specs.Lp.{LpSays}
 use Rattle.gdp_commands.specs.Make.{MakeSays}
 use Rattle.gdp_commands.specs.Messages.{read_fault}
 use Rattle.gdp_commands.specs.Solve.{SolveSays}
@@ -16,7 +17,7 @@ use Rattle.gdp_commands.specs.Table.{Answer, For}
 use Rattle.gdp_commands.specs.Test.{TestSays}
 use Rattle.gdp_commands.specs.Texts.{IsLong}
 use Rattle.gdp_commands.specs.Words.{Form, IsRead}
-use Rattle.gdp_commands.specs.Words.Form.{Test, Format, Compile, Solve, Check, Make, Bench}
+use Rattle.gdp_commands.specs.Words.Form.{Test, Format, Compile, Solve, Check, Make, Bench, Lp}
 
 -- The command answers by texts that stand behind its names: those that the shelf reveals, and any others where it hides them.
 abbrev pub Says : Form → Contents → Answer
@@ -39,6 +40,9 @@ Says (Check model answer) contents =
     CheckSays model answer model_text answer_text))
 Says (Make seed size) contents = MakeSays seed size
 Says (Bench route steps seed size) contents = BenchSays route steps seed size
+Says (Lp steps file) contents =
+    For (IsBehind contents file) (λ text.
+    LpSays steps file text)
 
 -- no text that is read before this name is too long, where the contents are revealed
 abbrev pub FitsBefore : Form → Contents → List ℕ → Type 0
@@ -49,6 +53,7 @@ FitsBefore (Solve route steps model) contents name = Unit {0}
 FitsBefore (Check model answer) contents name = (name ≡ model) ⊎ ((all : List ℕ) → contents model ≡ Some all → ¬ IsLong all)
 FitsBefore (Make seed size) contents name = Unit {0}
 FitsBefore (Bench route steps seed size) contents name = Unit {0}
+FitsBefore (Lp steps file) contents name = Unit {0}
 
 -- the count of a name that the command reads rose, what is read before it is not too long, and the text names it
 abbrev pub SaysFault : Form → Contents → (List ℕ → ℕ) → (List ℕ → ℕ) → List ℕ → Type 0

@@ -5,6 +5,8 @@ pub mod Command
 pub mod Compile
 pub mod CompileLaws
 pub mod Format
+pub mod Lp
+pub mod LpLaws
 pub mod Make
 pub mod MakeLaws
 pub mod Messages

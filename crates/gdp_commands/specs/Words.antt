@@ -16,6 +16,7 @@ pub data Form : Type 0 where
   Check : (model answer : List ℕ) → Form
   Make : (seed size : ℕ) → Form
   Bench : (route : Route) (steps seed size : ℕ) → Form
+  Lp : (steps : ℕ) → (file : List ℕ) → Form
 
 -- the word of a choice
 abbrev pub choice_word : Choice → List ℕ
@@ -47,6 +48,7 @@ IsForm words (Check model answer) = words ≡ codes "check" ∷ model ∷ answer
 IsForm words (Make seed size) = (first : List ℕ) × (second : List ℕ) × (words ≡ codes "make" ∷ first ∷ second ∷ []) × (IsSeed first seed × IsSize second size)
 IsForm words (Bench route steps seed size) = (first : List ℕ) × (second : List ℕ) × (third : List ℕ)
     × (words ≡ codes "bench" ∷ route_word route ∷ first ∷ second ∷ third ∷ []) × (IsSteps first steps × (IsSeed second seed × IsSize third size))
+IsForm words (Lp steps file) = (word : List ℕ) × (words ≡ codes "lp" ∷ word ∷ file ∷ []) × IsSteps word steps
 
 -- the command reads what is behind this name
 abbrev pub IsRead : Form → List ℕ → Type 0
@@ -57,6 +59,7 @@ IsRead (Solve route steps model) name = name ≡ model
 IsRead (Check model answer) name = (name ≡ model) ⊎ (name ≡ answer)
 IsRead (Make seed size) name = ⊥
 IsRead (Bench route steps seed size) name = ⊥
+IsRead (Lp steps file) name = name ≡ file
 
 -- the names that the command reads, in order
 abbrev pub names_of : Form → List (List ℕ)
@@ -67,6 +70,7 @@ names_of (Solve route steps model) = model ∷ []
 names_of (Check model answer) = model ∷ answer ∷ []
 names_of (Make seed size) = []
 names_of (Bench route steps seed size) = []
+names_of (Lp steps file) = file ∷ []
 
 -- the words, as bytes
 abbrev pub words_of : List (String Global) → List (List ℕ)

@@ -15,6 +15,7 @@ use crate::bench_command::bench_command;
 use crate::check_command::check_command;
 use crate::compile_command::compile_command;
 use crate::format_command::format_command;
+use crate::lp_command::lp_command;
 use crate::make_command::make_command;
 use crate::replies::Reply;
 use crate::solve_command::solve_command;
@@ -113,5 +114,6 @@ fn answer<S: Shelf>(alloc: Global, command: Command<'_>, shelf: &mut S) -> Resul
             seed,
             size,
         } => bench_command(alloc, route, steps, seed, size),
+        Command::Lp { steps, file } => lp_command(alloc, shelf, steps, file),
     }
 }

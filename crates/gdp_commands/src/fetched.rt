@@ -4,11 +4,14 @@ ghost use Rattle.gdp_grammar.specs.Spelling.{Spells};
 ghost use Rattle.gdp_io.specs.Causes.{Rose, NoneFell};
 ghost use Rattle.gdp_io.specs.Shelf.{SameContents, IsBehind, OpensOne, OpensFirst};
 ghost use Rattle.gdp_reader.specs.Taking.{IsRefused};
+ghost use Rattle.lp_grammar.specs.Spelling.{LpSpells};
+ghost use Rattle.lp_reader.specs.Read.{IsBad};
 ghost use Rattle.model_tree.specs.Values.{model_tree};
 ghost use Rattle.gdp_commands.specs.Texts.{IsLong, IsLongAnswer, IsLongerBehind};
 
 use gdp_io::{ReadAllError, Shelf, Text, read_all};
 use gdp_reader::{ReadError, read_model};
+use lp_reader::{LpError, LpFile, read_lp};
 use model_tree::Model;
 use std::alloc::Global;
 use std::marker;
@@ -51,6 +54,14 @@ impl Fetched {
         ensures refused { IfErr result (λ error. IsRefused self.now error) }
     {
         read_model(alloc, self.text.as_slice())
+    }
+
+    /// The program that it spells.
+    pub fn program(&self, alloc: Global) -> Result<LpFile, LpError>
+        ensures found { IfOk result (LpSpells self.now) }
+        ensures refused { IfErr result (IsBad self.now) }
+    {
+        read_lp(alloc, self.text.as_slice())
     }
 }
 

@@ -6,7 +6,7 @@
 //! rose.
 //!
 //! Read `specs/Words.antt` and `specs/Table.antt`, a table for each command (`Test`, `Format`, `Compile`, `Solve`, `Check`,
-//! `Make`, `Bench`), then `commands.rt`, `streams.rt`, `fetched.rt`, `replies.rt`, and a file for each command; `specs/CompileLaws.antt` and
+//! `Make`, `Bench`, `Lp`), then `commands.rt`, `streams.rt`, `fetched.rt`, `replies.rt`, and a file for each command; `specs/CompileLaws.antt` and
 //! `specs/SolveLaws.antt` say what the tables mean.
 #![tactic(auto)]
 
@@ -17,6 +17,8 @@ mod compile_command;
 pub mod compile_laws;
 mod fetched;
 mod format_command;
+mod lp_command;
+pub mod lp_laws;
 mod make_command;
 pub mod make_laws;
 mod messages;

@@ -79,6 +79,11 @@ pub enum Command<'a> {
         seed: u64,
         size: Size,
     },
+    /// Solves the program of an LP text, which is a name for the shelf, with at most so many steps.
+    Lp {
+        steps: u32,
+        file: &'a str,
+    },
 }
 
 /// The command that the words are a form of.
@@ -136,6 +141,7 @@ fn parse_three<'a>(command: &str, first: &'a str, second: &'a str) -> Option<Com
             answer: second,
         }),
         "make" => parse_make(first, second),
+        "lp" => parse_lp(first, second),
         _ => None,
     }
 }
@@ -214,6 +220,15 @@ fn parse_make<'a>(first: &str, second: &str) -> Option<Command<'a>>
     let seed = parse_seed(first)?;
     let size = parse_size(second)?;
     Some(Command::Make { seed, size })
+}
+
+/// The command that solves an LP text, where the word is a number of steps.
+fn parse_lp<'a>(word: &str, file: &'a str) -> Option<Command<'a>>
+    ensures form { IfSome result (λ it. IsForm (codes "lp" ∷ word.now ∷ file.now ∷ []) (form_of it)) }
+    ensures none { IfNone result (NoForm (codes "lp" ∷ word.now ∷ file.now ∷ [])) }
+{
+    let steps = parse_steps(word)?;
+    Some(Command::Lp { steps, file })
 }
 
 /// The command that solves a model that is made, where the words are a route's, a number of steps, a seed and a size.
