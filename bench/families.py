@@ -141,8 +141,8 @@ def transport(draw: Draw, towns: int) -> list[str]:
 # Each family with its four sizes.
 FAMILIES: dict[str, tuple[Callable[[Draw, int], list[str]], tuple[int, int, int, int]]] = {
     "process_network": (process_network, (2, 4, 6, 8)),
-    "job_shop": (job_shop, (3, 4, 5, 6)),
-    "strip_packing": (strip_packing, (3, 4, 5, 6)),
+    "job_shop": (job_shop, (2, 3, 4, 5)),
+    "strip_packing": (strip_packing, (2, 3, 4, 5)),
     "facility_choice": (facility_choice, (3, 5, 7, 9)),
     "batch_schedule": (batch_schedule, (2, 3, 4, 5)),
     "transport": (transport, (2, 3, 4, 5)),

@@ -2,8 +2,8 @@
 """Measures what a step of a search takes, and whether a long search slows down.
 
 `steps.py` prints two tables. The first sets the processor time of a step of `solve bigm` on plants beside that of an exchange of
-`simplex_bench` on the first tableau of the same program. The second has the steps a second in the first and in the last tenth of
-searches that are stopped after 300,000 steps, with their peak memory. A run of fewer steps is taken off, so that reading the
+`simplex_bench` on the first tableau of the same program. The second has the steps a second in the first and in the second half of
+searches that are stopped after 300,000 steps or more, with their peak memory. A run of fewer steps is taken off, so that reading the
 model counts for neither; what is written at the end, the log, counts for each step.
 """
 
@@ -13,13 +13,13 @@ import tempfile
 import plants
 from runs import PROGRAM, ROOT, in_turns, machine, mean, run
 
-TURNS = 3
+TURNS = 7
 MOVES = str(ROOT / "crates" / "simplex_bench" / "out" / "simplex_bench")
 # Sizes with steps that do not suffice there, and how often the moves over the first tableau are made.
 SIZES = {6: (2_000, 400), 10: (20_000, 150)}
 SEEDS = (1, 2, 3)
-# Routes, seeds and sizes of searches that take more than 300,000 steps.
-LONG = [("bigm", 1, 15), ("logic", 2, 20)]
+# Routes, seeds and sizes of searches that take more than so many steps.
+LONG = [("bigm", 1, 15, 300_000), ("logic", 2, 20, 1_000_000)]
 
 
 def standard_form(program: str) -> str:
@@ -73,22 +73,22 @@ def beside(folder: pathlib.Path) -> None:
 
 
 def long_runs(folder: pathlib.Path) -> None:
-    """The table of the first and the last tenth."""
+    """The table of both halves."""
     model = str(folder / "model")
-    print("\n| route | size, seed | first tenth, steps a second | last tenth | over it | peak memory | log |")
-    print("|---|---|---|---|---|---|---|")
-    for route, seed, size in LONG:
+    print("\n| route | size, seed | steps | first half, steps a second | second half | over it | peak memory | log |")
+    print("|---|---|---|---|---|---|---|---|")
+    for route, seed, size, steps in LONG:
         pathlib.Path(model).write_text(plants.text(seed, size))
-        budgets = (1, 30_000, 270_000, 300_000)
-        best = in_turns({str(steps): [PROGRAM, "solve", route, str(steps), model] for steps in budgets}, TURNS)
-        if best["300000"].status != 3:
-            print(f"| {route} | {size}, {seed} | ended with status {best['300000'].status} | | | | |")
+        budgets = {"none": 1, "half": steps // 2, "all": steps}
+        commands = {name: [PROGRAM, "solve", route, str(budget), model] for name, budget in budgets.items()}
+        best = in_turns(commands, TURNS)
+        if best["all"].status != 3:
+            print(f"| {route} | {size}, {seed} | ended before {steps:,} | | | | | |")
             continue
-        first = 30_000 / (best["30000"].busy - best["1"].busy)
-        last = 30_000 / (best["300000"].busy - best["270000"].busy)
-        whole = best["300000"]
-        told = f"{first:,.0f} | {last:,.0f} | {last / first:.2f} | {whole.memory / 2**20:.0f} MiB | {len(whole.out) / 2**20:.1f} MiB"
-        print(f"| {route} | {size}, {seed} | {told} |", flush=True)
+        first = steps / 2 / (best["half"].busy - best["none"].busy)
+        second = steps / 2 / (best["all"].busy - best["half"].busy)
+        told = f"{first:,.0f} | {second:,.0f} | {second / first:.2f} | {best['all'].memory / 2**20:.0f} MiB"
+        print(f"| {route} | {size}, {seed} | {steps:,} | {told} | {len(best['all'].out) / 2**20:.1f} MiB |", flush=True)
 
 
 if __name__ == "__main__":
