@@ -449,7 +449,7 @@ def sizes():
         row("parentheses to the limit", filled(m, b"("), "line 4: Limit"),
         row("stray bytes to the limit", filled(m, b"|"), "line 4: Form"),
         row("stray bytes and a token that isn't read", filled(m, b"|", b"*"), "line 4: Unsupported"),
-        Case("memory: too little for an LP text", ["lp", "1000", "F"], {"F": filled(m, b"\n")}, 8, err=b"out of memory\n", room=12 * 2**20, is_long=True),
+        Case("memory: too little for an LP text", ["lp", "1000", "F"], {"F": filled(m, b"\n")}, 8, err=b"out of memory\n", room=8 * 2**20, is_long=True),
     ]
 
 
