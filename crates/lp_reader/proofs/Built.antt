@@ -8,9 +8,9 @@ use Rattle.lp_grammar.specs.declared.stage.Column.{Column}
 use Rattle.lp_grammar.specs.Programs.{AreStored, AreStoredRows}
 use Rattle.lp_grammar.specs.Reading.{col_of, bound_rows, milp_of, is_within}
 use Rattle.lp_grammar.specs.Taking.{Taken}
-use Rattle.lp_reader.specs.Grown.{with_cols, with_rows}
+use Rattle.lp_parts.specs.Grown.{with_cols, with_rows}
 use Rattle.lp_reader.specs.Kept.{IsKept}
-use Rattle.lp_reader.proofs.Grown.{past_more, rows_both}
+use Rattle.lp_parts.proofs.Grown.{past_more, rows_both}
 
 -- the columns, with the goal, with the rows
 abbrev pub with_goal : Taken → MilpValue → MilpValue

@@ -21,9 +21,10 @@ use Rattle.lp_grammar.specs.Reading.{and_then, with_number, goal_sign, goal_size
 use Rattle.lp_grammar.specs.Scaling.{has_id, insert_term}
 use Rattle.lp_grammar.specs.Taking.{Taken, Objective, new_column, note_if, at_stage, numeral_value, is_huge, turned_if, or_one, is_out, nothing_pending, coefficient_of, with_sign, with_size, place_from, with_new_column, column_at, column_of, with_name, with_goal_term, with_row_term, with_constant, row_of, with_row, or_zero, objective_of, with_objective, with_column, added_rows, bounded_by, freed, turned, is_infinite_word, is_free_word}
 use Rattle.lp_grammar.specs.Tokens.{Token, Name, Number, Sign, Compare, Colon, Barred, Stray, Numeral}
-use Rattle.lp_reader.specs.Kept.{IsStoredBound, IsKeptStage, AreKept, IsKept}
+use Rattle.lp_parts.specs.Stored.{AreOrdered, IsStoredBound}
+use Rattle.lp_reader.specs.Kept.{IsKeptStage, AreKept, IsKept}
 use Rattle.lp_reader.proofs.KeptColumns.{signed_kept, KeepsBounds, KeepsKind, bounded_bounds, bounded_kind, freed_bounds, freed_kind, integer_bounds, changed_bounds, changed_length, changed_height, integer_height, new_bounds, new_height, stored_more, rows_more, row_added, height_added}
-use Rattle.lp_reader.proofs.KeptTerms.{placed_ordered, none_ordered, ordered_more, row_kept, objective_kept}
+use Rattle.lp_parts.proofs.KeptTerms.{placed_ordered, none_ordered, ordered_more, row_kept, objective_kept}
 
 -- what is taken, if it is
 abbrev pub IfKept : ℕ → Option Taken → Type 0
@@ -111,45 +112,33 @@ column_kept m t name k r = go (place_from 0 name t.names) refl
     go (Some id) e = let below = place_below 0 name t.names id e in (omega (arith, below), k)
 
 -- ---- the objective and rows
+-- kept with other sums
+with_sums : (m : ℕ) (t : Taken) (aim sum : List (ℕ × Fraction)) → IsKept m t → AreOrdered (length t.names) aim → AreOrdered (length t.names) sum → AreKept m (length t.names) aim sum t.columns t.objective t.rows t.count
+with_sums m t aim sum k a s = record {
+  few_names = k.1.few_names;
+  few_rows = k.1.few_rows;
+  named = k.1.named;
+  bounds = k.1.bounds;
+  goal = a;
+  terms = s;
+  objective = k.1.objective;
+  rows = k.1.rows;
+  counted = k.1.counted;
+}
+
 goal_term : (m : ℕ) (found : ℕ × Taken) (f : Fraction) → IsFoundKept m found → IfKept m (with_goal_term found f)
 goal_term m found f k = go (has_id found.0 found.1.goal) refl
   where
     go : (b : Bool) → has_id found.0 found.1.goal ≡ b → IfKept m (if b then None else Some (record found.1 { stage = Goal false nothing_pending; goal = insert_term (found.0, f) found.1.goal }))
     go true e = tt
-    go false e = (
-      tt,
-      record {
-        few_names = k.1.1.few_names;
-        few_rows = k.1.1.few_rows;
-        named = k.1.1.named;
-        bounds = k.1.1.bounds;
-        goal = placed_ordered (length found.1.names) found.0 f found.1.goal k.0 e k.1.1.goal;
-        terms = k.1.1.terms;
-        objective = k.1.1.objective;
-        rows = k.1.1.rows;
-        counted = k.1.1.counted;
-      },
-    )
+    go false e = (tt, with_sums m found.1 (insert_term (found.0, f) found.1.goal) found.1.terms k.1 (placed_ordered (length found.1.names) found.0 f found.1.goal k.0 e k.1.1.goal) k.1.1.terms)
 
 row_term : (m : ℕ) (found : ℕ × Taken) (f : Fraction) → IsFoundKept m found → IfKept m (with_row_term found f)
 row_term m found f k = go (has_id found.0 found.1.terms) refl
   where
     go : (b : Bool) → has_id found.0 found.1.terms ≡ b → IfKept m (if b then None else Some (record found.1 { stage = Rows false nothing_pending; terms = insert_term (found.0, f) found.1.terms }))
     go true e = tt
-    go false e = (
-      tt,
-      record {
-        few_names = k.1.1.few_names;
-        few_rows = k.1.1.few_rows;
-        named = k.1.1.named;
-        bounds = k.1.1.bounds;
-        goal = k.1.1.goal;
-        terms = placed_ordered (length found.1.names) found.0 f found.1.terms k.0 e k.1.1.terms;
-        objective = k.1.1.objective;
-        rows = k.1.1.rows;
-        counted = k.1.1.counted;
-      },
-    )
+    go false e = (tt, with_sums m found.1 found.1.goal (insert_term (found.0, f) found.1.terms) k.1 k.1.1.goal (placed_ordered (length found.1.names) found.0 f found.1.terms k.0 e k.1.1.terms))
 
 constant_kept : (m : ℕ) (t : Taken) (p : Pending) (o : Option Fraction) → IsKept m t → IfKept m (with_constant t p o)
 constant_kept m t p None k = if_kept m p.is_open None (Some t) tt k
@@ -193,20 +182,7 @@ row_kept_by m t fresh p Barred l k r = tt
 row_kept_by m t fresh p Stray l k r = tt
 
 row_taken : (m : ℕ) (o : Option RowValue) (t : Taken) → IsKept m t → HasRoom m t → ((r : RowValue) → o ≡ Some r → IsStoredRow (length t.names) r) → IsKept m (with_row o t)
-row_taken m None t k room f = (
-  tt,
-  record {
-    few_names = k.1.few_names;
-    few_rows = k.1.few_rows;
-    named = k.1.named;
-    bounds = k.1.bounds;
-    goal = k.1.goal;
-    terms = none_ordered (length t.names);
-    objective = k.1.objective;
-    rows = k.1.rows;
-    counted = k.1.counted;
-  },
-)
+row_taken m None t k room f = (tt, with_sums m t t.goal [] k k.1.goal (none_ordered (length t.names)))
 row_taken m (Some r) t k room f =
     let next : Taken = record t { stage = Rows true nothing_pending; terms = []; rows = t.rows ++ r ∷ []; count = t.count + height_of r.rel } in
     noted m (not (nat_le next.count most_rows)) cause.Limit next (
@@ -450,17 +426,7 @@ objective_taken m (Some x) t k f = (
 )
 
 fresh_goal : (m : ℕ) (t : Taken) → IsKept m t → AreKept m (length t.names) [] t.terms t.columns t.objective t.rows t.count
-fresh_goal m t k = record {
-  few_names = k.1.few_names;
-  few_rows = k.1.few_rows;
-  named = k.1.named;
-  bounds = k.1.bounds;
-  goal = none_ordered (length t.names);
-  terms = k.1.terms;
-  objective = k.1.objective;
-  rows = k.1.rows;
-  counted = k.1.counted;
-}
+fresh_goal m t k = with_sums m t [] t.terms k (none_ordered (length t.names)) k.1.terms
 
 opened_kept : (m : ℕ) (s : Section) (t : Taken) → IsKept m t → IsKept m (opened s t)
 opened_kept m section.Minimize t k = (tt, fresh_goal m t k)

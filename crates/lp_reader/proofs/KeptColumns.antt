@@ -17,8 +17,8 @@ use Rattle.lp_grammar.specs.Scaling.{divisor_of, lowest, whole}
 use Rattle.lp_grammar.specs.Taking.{new_column, changed_at, added_rows, bounded_by, freed, power_if, over_part, under_part, if_small, numeral_value, is_huge, turned_if, or_one}
 use Rattle.lp_grammar.specs.Tokens.{Numeral}
 use Rattle.lp_grammar.proofs.Scales.{divisor_is}
-use Rattle.lp_reader.specs.Kept.{IsStoredFraction, IsStoredBound, AreStoredBounds}
-use Rattle.lp_reader.proofs.KeptTerms.{below_more}
+use Rattle.lp_parts.specs.Stored.{IsStoredFraction, IsStoredBound, AreStoredBounds}
+use Rattle.lp_parts.proofs.KeptTerms.{below_more}
 
 -- ---- the values of numbers
 power_some : (k : ℕ) → 0 < 10 ^ k

@@ -1,12 +1,8 @@
 pub mod Built
 pub mod Changed
-pub mod Gathered
-pub mod Grown
 pub mod Kept
 pub mod KeptColumns
-pub mod KeptTerms
 pub mod Lined
 pub mod Ready
 pub mod Room
-pub mod Scaled
 pub mod Told

@@ -19,9 +19,10 @@ use Rattle.lp_grammar.specs.Items.{Item, Line, lp_lines}
 use Rattle.lp_grammar.specs.Programs.{AreStored, AreStoredRows, IsMilp, most_cols, most_rows}
 use Rattle.lp_grammar.specs.Reading.{and_then, is_empty, is_zero, col_of, end_row, low_row, bound_rows, may_end, milp_of, lp_of, is_within, program_after, LpValue, with_item, with_items, settled_with, settled, with_line, lp_grammar}
 use Rattle.lp_grammar.specs.Taking.{Taken, nothing_taken}
-use Rattle.lp_reader.specs.Kept.{IsStoredBound, AreStoredBounds, IsKept, IsReady}
+use Rattle.lp_parts.specs.Stored.{IsStoredBound, AreStoredBounds}
+use Rattle.lp_reader.specs.Kept.{IsKept, IsReady}
 use Rattle.lp_reader.specs.Laws.{SpelledIsMilp}
-use Rattle.lp_reader.proofs.KeptTerms.{none_ordered}
+use Rattle.lp_parts.proofs.KeptTerms.{none_ordered}
 use Rattle.lp_reader.proofs.Kept.{IfKept, HasRoom, wider, item_kept}
 
 -- ---- one item, items and lines

@@ -1,5 +1,5 @@
 -- Bytes and tokens bound the items of lines, and what is ready has room for its numbers.
-use Rattle.std.proofs.Common.{◌≡◌, ℕ, zero, suc, ◌+◌, ◌-◌, ◌*◌, ◌^◌, ◌<◌, ◌≤◌, Bool, true, false, ◌&&◌, not, ◌==◌, if◌then◌else◌, List, [], ◌∷◌, length, map, get_or, Option, Some, None, Ok, refl, ap, sym, subst, ◌∙◌, arith}
+use Rattle.std.proofs.Common.{◌≡◌, ℕ, zero, suc, ◌+◌, ◌-◌, ◌*◌, ◌^◌, ◌<◌, ◌≤◌, Bool, true, false, ◌&&◌, not, ◌==◌, if◌then◌else◌, List, [], ◌∷◌, length, map, Option, Some, None, Ok, refl, ap, sym, subst, ◌∙◌, arith}
 use Rattle.std.specs.Prelude.{nat_lt, nat_le, ◌++◌}
 use Rattle.std.proofs.lemmas.Bool.Decides.{nat_tests}
 use Rattle.std.proofs.lemmas.List.{length-map}
@@ -28,7 +28,8 @@ use Rattle.lp_grammar.specs.Items.{Item, Opens, Has, plain_items, section_of, ar
 use Rattle.lp_grammar.specs.Reading.{with_number, closed, col_of, with_section, with_token, with_line}
 use Rattle.lp_grammar.specs.Taking.{Taken, nothing_taken, new_column, note_if, with_constant, with_name, place_from, column_at, column_of, is_out}
 use Rattle.lp_grammar.specs.Tokens.{Token, Name, Number, Sign, Compare, Colon, Barred, Stray, token_of, without_comment, tokens_of}
-use Rattle.lp_reader.specs.Kept.{AreOrdered, IsReady, most_items}
+use Rattle.lp_parts.specs.Stored.{AreOrdered}
+use Rattle.lp_reader.specs.Kept.{IsReady, most_items}
 use Rattle.lp_reader.specs.Taken.{Leaves, LineLeaves, line_before}
 use Rattle.lp_reader.proofs.Ready.{fewer, item_ready, line_ready, start_ready}
 
@@ -169,17 +170,6 @@ text_ready text t e short =
     (fewer most_items most_items (bytes_in (lines_of text)) nothing_taken (omega (arith, text_bytes text, short)) (start_ready most_items))
 
 -- ---- numbers
-id_at : (n : ℕ) (ts : List (ℕ × Fraction)) (i : ℕ) (t : ℕ × Fraction) → ids_below n ts ≡ true → i < length ts → t ≡ get_or ts i t → t.0 < n
-id_at n [] i t h lt e = absurd (omega (arith, lt))
-id_at n (u ∷ us) zero t h lt e = let parts = both (nat_lt u.0 n) (ids_below n us) h in subst (λ (x : ℕ × Fraction). x.0 < n) (sym e) (less u.0 n parts.0)
-  where
-    less : (a b : ℕ) → nat_lt a b ≡ true → a < b
-    less a b h = grind (arith, nat_tests)
-id_at n (u ∷ us) (suc i) t h lt e = id_at n us i t (both (nat_lt u.0 n) (ids_below n us) h).1 (omega (arith, lt)) e
-
-pub term_fits : (ts : List (ℕ × Fraction)) (i : ℕ) (t : ℕ × Fraction) → ids_below (2 ^ 32) ts ≡ true → i < length ts → t ≡ get_or ts i t → t.0 < 2 ^ 32
-term_fits ts i t h lt e = id_at (2 ^ 32) ts i t h lt e
-
 below_wider : (n m : ℕ) (ts : List (ℕ × Fraction)) → n ≤ m → ids_below n ts ≡ true → ids_below m ts ≡ true
 below_wider n m [] le h = refl
 below_wider n m (t ∷ ts) le h = let parts = both (nat_lt t.0 n) (ids_below n ts) h in and_true (nat_lt t.0 m) (ids_below m ts) (more t.0 n m parts.0 le) (below_wider n m ts le parts.1)

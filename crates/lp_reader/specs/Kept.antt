@@ -1,8 +1,7 @@
 -- What holds of what was taken, wherever a text stands.
-use Rattle.std.specs.Prelude.{◌≡◌, ℕ, ◌+◌, ◌-◌, ◌^◌, ◌≤◌, nat_eq, unsigned_abs, true, false, List, [], ◌∷◌, length, map, Option, None, Some}
+use Rattle.std.specs.Prelude.{◌≡◌, ℕ, ◌+◌, ◌-◌, ◌^◌, ◌≤◌, List, length, map}
 use Rattle.fractions.specs.Fraction.{Fraction}
-use Rattle.lp_rows.specs.Holding.{ids_below}
-use Rattle.lp_rows.specs.Rows.{RowValue, ascends_from, is_storable}
+use Rattle.lp_rows.specs.Rows.{RowValue}
 use Rattle.milps.specs.Building.{rows_height, bounds_height}
 use Rattle.lp_grammar.specs.declared.stage.Column.{Column}
 use Rattle.lp_grammar.specs.declared.stage.Stage.{Stage}
@@ -10,32 +9,13 @@ use Rattle.lp_grammar.specs.declared.stage.Stage.TheVariants.{BoundFrom, BoundOn
 use Rattle.lp_grammar.specs.Programs.{AreStored, AreStoredRows}
 use Rattle.lp_grammar.specs.Reading.{col_of}
 use Rattle.lp_grammar.specs.Taking.{Taken, Objective}
-
--- both parts of a fraction may be stored, and its denominator isn't 0
-pub record IsStoredFraction (f : Fraction) : Type 0 where
-  pub num : is_storable f.num ≡ true
-  pub den : is_storable f.den ≡ true
-  pub some : nat_eq (unsigned_abs f.den) 0 ≡ false
-
--- so it is of a bound, if there is one
-abbrev pub IsStoredBound : Option Fraction → Type 0
-IsStoredBound None = Unit {0}
-IsStoredBound (Some f) = IsStoredFraction f
-
-abbrev pub AreStoredBounds : List Column → Type 0
-AreStoredBounds [] = Unit {0}
-AreStoredBounds (c ∷ cs) = (IsStoredBound c.low × IsStoredBound c.high) × AreStoredBounds cs
+use Rattle.lp_parts.specs.Stored.{IsStoredBound, AreStoredBounds, AreOrdered}
 
 -- the value that begins a bound may be stored
 abbrev pub IsKeptStage : Stage → Type 0
 IsKeptStage (BoundFrom bound) = IsStoredBound bound
 IsKeptStage (BoundOn bound rel) = IsStoredBound bound
 IsKeptStage _ = Unit {0}
-
--- terms over so many columns stand in the order of their ids
-pub record AreOrdered (n : ℕ) (ts : List (ℕ × Fraction)) : Type 0 where
-  pub ascend : ascends_from 0 ts ≡ true
-  pub below : ids_below n ts ≡ true
 
 -- Over n names, and with at most m names and rows: as many columns, with bounds that may be stored; terms in their order;
 -- an objective and rows that may be stored; and the rows are counted.

@@ -1,6 +1,5 @@
-pub mod Grown
 pub mod Kept
 pub mod Laws
 pub mod Read
-pub mod Stored
+pub mod Sums
 pub mod Taken

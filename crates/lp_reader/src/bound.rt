@@ -36,9 +36,10 @@ ghost use Rattle.lp_reader.specs.Taken.{taken_of, Leaves};
 use crate::row::is_minus;
 use crate::taking::Taking;
 use fractions::Frac;
-use lp_grammar::{Column, Stage};
+use lp_grammar::Stage;
+use lp_parts::columns::{bounded, made_integer, unbounded};
 use lp_rows::Rel;
-use lp_tokens::value::{signed_or_one, value, whole_number};
+use lp_tokens::value::{signed_or_one, value};
 use lp_tokens::words::{is_free_word, is_infinite_word};
 use lp_tokens::{Numeral, Token, is_huge};
 use outcomes::Memory;
@@ -52,60 +53,6 @@ fn signed_value(is_negative: bool, number: &Numeral<'_>) -> Option<Frac>
         return None;
     }
     Some(signed_or_one(is_negative, value(number)))
-}
-
-/// The column with a bound.
-fn bounded(rel: Rel, bound: Option<Frac>, column: Column) -> Column
-    ensures { result ≡ bounded_by rel bound column }
-{
-    match rel {
-        Rel::AtMost => Column {
-            high: bound,
-            ..column
-        },
-        Rel::AtLeast => Column {
-            low: bound,
-            ..column
-        },
-        Rel::Equal => {
-            let low = bound;
-            Column {
-                is_integer: column.is_integer,
-                low,
-                high: bound,
-            }
-        }
-    }
-}
-
-/// The column without bounds.
-fn unbounded(column: Column) -> Column
-    ensures { result ≡ freed column }
-{
-    Column {
-        is_integer: column.is_integer,
-        low: None,
-        high: None,
-    }
-}
-
-/// The column as an integer or a binary one.
-fn made_integer(is_binary: bool, column: Column) -> Column
-    ensures { result ≡ integer_change is_binary column }
-{
-    if is_binary {
-        Column {
-            is_integer: true,
-            low: Some(whole_number(0)),
-            high: Some(whole_number(1)),
-        }
-    } else {
-        Column {
-            is_integer: true,
-            low: column.low,
-            high: column.high,
-        }
-    }
 }
 
 /// The relation, turned round.

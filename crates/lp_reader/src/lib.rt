@@ -5,22 +5,20 @@
 //!
 //! `read.rt` goes over the text once, line by line, and nothing recurses. `taking.rt` keeps what the items so far gave;
 //! `goal.rt`, `row.rt`, `bound.rt`, `section.rt` and `line.rt` take items by the clauses of the definition, each function
-//! one clause; `terms.rt`, `scaling.rt` and `objective.rt` make whole numbers of terms, and `program.rt` the program.
-//! `laws.rt` has the law that what a text spells is a program.
+//! one clause, with names in sums in `sum.rt`; `program.rt` has the program at the end of a text. `laws.rt` has the law that
+//! what a text spells is a program.
 #![tactic(auto)]
 
 pub mod bound;
 pub mod goal;
 pub mod laws;
 pub mod line;
-pub mod objective;
 pub mod program;
 pub mod read;
 pub mod row;
-pub mod scaling;
 pub mod section;
+pub mod sum;
 pub mod taking;
-pub mod terms;
 
 pub use program::LpFile;
 pub use read::{LpError, read_lp};

@@ -2,18 +2,20 @@
 
 ghost use Rattle.std.specs.Prelude.{◌≡◌, ◌≤◌, ◌^◌, None, Some, IfOk, OnOk, IfSome, true, false};
 ghost use Rattle.lp_rows.specs.Rows.{is_storable};
-ghost use Rattle.lp_grammar.specs.Taking.{column_of as column_of_name, with_row_term, with_row as with_one_row, row_of, or_one, turned_if};
+ghost use Rattle.lp_grammar.specs.Taking.{with_row as with_one_row, row_of, or_one, turned_if};
 ghost use Rattle.lp_grammar.specs.Reading.{row_token, right_token, with_number as with_one_number, is_minus as is_minus_of};
 ghost use Rattle.milps.specs.Building.{height_of};
-ghost use Rattle.lp_grammar.specs.Tokens.{Name, Sign, Compare};
+ghost use Rattle.lp_grammar.specs.Tokens.{Sign, Compare};
 ghost use Rattle.lp_tokens.specs.Views.{piece};
-ghost use Rattle.lp_reader.specs.Kept.{AreOrdered};
+ghost use Rattle.lp_parts.specs.Stored.{AreOrdered};
 ghost use Rattle.lp_reader.specs.Taken.{taken_of, row_size, Leaves};
 
-use crate::scaling::make_row;
-use crate::taking::{Taking, coefficient, no_pending, push_sign, sized};
+use crate::sum::Sum;
+use crate::taking::Taking;
 use fractions::Frac;
 use lp_grammar::{LpCause, Pending, Stage};
+use lp_parts::pending::{no_pending, push_sign, sized};
+use lp_parts::scaling::make_row;
 use lp_rows::{Rel, Row};
 use lp_tokens::Token;
 use lp_tokens::value::{signed_or_one, value};
@@ -78,42 +80,6 @@ impl Taking {
         true
     }
 
-    /// A term of a row, unless its column stands; whether it can come here.
-    fn take_row_term(
-        &mut self,
-        alloc: Global,
-        name: &[u8],
-        coefficient: Frac,
-    ) -> Result<bool, Memory>
-        ensures { IfOk result (λ fits. Leaves (taken_of self.new) fits (with_row_term (column_of_name (taken_of self.old) name.now) coefficient)) }
-    {
-        let id = self.column_of(alloc, name)?;
-        if !self.terms.insert(id, coefficient)? {
-            return Ok(false);
-        }
-        self.stand_at(Stage::Rows(false, no_pending()));
-        Ok(true)
-    }
-
-    /// A name in a row; whether it can come here.
-    fn take_row_name(
-        &mut self,
-        alloc: Global,
-        is_fresh: bool,
-        pending: Pending,
-        name: &[u8],
-        is_labelled: bool,
-    ) -> Result<bool, Memory>
-        ensures { IfOk result (λ fits. Leaves (taken_of self.new) fits (row_token (taken_of self.old) is_fresh pending (Name name.now) is_labelled)) }
-    {
-        self.take_name(name);
-        if is_fresh && is_labelled {
-            self.stand_at(Stage::RowLabel);
-            return Ok(true);
-        }
-        self.take_row_term(alloc, name, coefficient(pending))
-    }
-
     /// A token of a row before its relation; whether it can come here.
     pub fn take_row_token(
         &mut self,
@@ -126,7 +92,9 @@ impl Taking {
         ensures { IfOk result (λ fits. Leaves (taken_of self.new) fits (row_token (taken_of self.old) is_fresh pending (piece token.entry) is_labelled)) }
     {
         match token {
-            Token::Name(name) => self.take_row_name(alloc, is_fresh, pending, name, is_labelled),
+            Token::Name(name) => {
+                self.take_sum_name(alloc, Sum::Row, is_fresh, pending, name, is_labelled)
+            }
             Token::Sign(is_negative) => Ok(self.take_row_sign(pending, is_negative)),
             Token::Number(number) => Ok(self.take_row_size(pending, value(&number))),
             Token::Compare(rel) => Ok(self.take_row_relation(pending, rel)),

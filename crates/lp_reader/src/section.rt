@@ -9,10 +9,11 @@ ghost use Rattle.lp_rows.specs.Holding.{ids_below};
 ghost use Rattle.lp_reader.specs.Kept.{most_items, IsReady};
 ghost use Rattle.lp_reader.specs.Taken.{taken_of, Leaves};
 
-use crate::scaling::make_objective;
-use crate::taking::{Taking, no_pending};
+use crate::taking::Taking;
 use fractions::Frac;
 use lp_grammar::{LpCause, Section, Stage};
+use lp_parts::pending::no_pending;
+use lp_parts::scaling::make_objective;
 use lp_rows::Sense;
 use lp_tokens::Token;
 use lp_tokens::value::whole_number;

@@ -1,18 +1,11 @@
 //! What the items of a text so far gave.
 
-ghost use Rattle.std.specs.Prelude.{◌≡◌, ℕ, None, length, IfOk, IfSome, true};
-ghost use Rattle.lp_rows.specs.Rows.{is_storable};
+ghost use Rattle.std.specs.Prelude.{◌≡◌, ℕ, None, length, IfOk};
 ghost use Rattle.lp_grammar.specs.Taking.{
   nothing_taken,
   note_if as noted_if,
   deciding,
   at_stage,
-  with_sign as with_one_sign,
-  nothing_pending,
-  with_size as with_one_size,
-  or_one,
-  coefficient_of,
-  new_column as one_new_column,
   place_from,
   with_new_column,
   column_of as column_of_name,
@@ -24,12 +17,11 @@ ghost use Rattle.lp_grammar.specs.Reading.{with_number as with_one_number, colon
 ghost use Rattle.lp_tokens.specs.Views.{piece};
 ghost use Rattle.lp_reader.specs.Taken.{taken_of, Leaves, IsFound};
 
-use crate::objective::Objective;
-use crate::terms::TermMap;
 use fractions::Frac;
 use lp_grammar::{Column, LpCause, Pending, Stage};
+use lp_parts::columns::new_column;
+use lp_parts::{Objective, TermMap};
 use lp_rows::{Row, Sense};
-use lp_tokens::value::{signed_one, signed_or_one, whole_number};
 use lp_tokens::{Names, Token};
 use outcomes::Memory;
 use std::alloc::Global;
@@ -48,65 +40,6 @@ pub struct Taking {
     pub rows: Vec<Row>,
     pub count: u64,
     pub noted: Option<LpCause>,
-}
-
-/// Nothing stands before a name.
-pub fn no_pending() -> Pending
-    ensures { result ≡ nothing_pending }
-{
-    Pending {
-        is_open: false,
-        is_negative: false,
-        size: None,
-    }
-}
-
-/// The coefficient of a name.
-pub fn coefficient(pending: Pending) -> Frac
-    ensures { result ≡ coefficient_of pending }
-{
-    match pending.size {
-        None => signed_one(pending.is_negative),
-        Some(size) => size,
-    }
-}
-
-/// One more sign, before a number.
-pub fn push_sign(is_negative: bool, pending: Pending) -> Pending
-    ensures { result ≡ with_one_sign is_negative pending }
-{
-    Pending {
-        is_open: true,
-        is_negative: if is_negative {
-            !pending.is_negative
-        } else {
-            pending.is_negative
-        },
-        size: None,
-    }
-}
-
-/// A number behind signs, or 1 in place of one that is out of range.
-pub fn sized(pending: Pending, value: Option<Frac>) -> Pending
-    requires { IfSome value (λ f. is_storable f.num ≡ true) }
-    ensures { result ≡ with_one_size (or_one value) pending }
-{
-    Pending {
-        is_open: true,
-        is_negative: pending.is_negative,
-        size: Some(signed_or_one(pending.is_negative, value)),
-    }
-}
-
-/// A column without a bound.
-fn new_column() -> Column
-    ensures { result ≡ one_new_column }
-{
-    Column {
-        is_integer: false,
-        low: Some(whole_number(0)),
-        high: None,
-    }
 }
 
 /// Of a cause and one that may be noted, the one that decides.

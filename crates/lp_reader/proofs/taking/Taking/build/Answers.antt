@@ -3,10 +3,10 @@ use Rattle.milps.specs.Milps.{MilpValue}
 use Rattle.lp_rows.specs.Rows.{RowValue}
 use Rattle.lp_grammar.specs.Reading.{milp_of, is_within}
 use Rattle.lp_grammar.specs.Taking.{Taken}
-use Rattle.lp_reader.specs.Grown.{with_rows}
+use Rattle.lp_parts.specs.Grown.{with_rows}
 use Rattle.lp_reader.specs.Taken.{taken_of}
 use Rattle.lp_reader.proofs.Built.{with_goal, cols_of, rows_past, none_built, some_built, cols_told, goal_told, rows_told, all_told}
-use Rattle.lp_reader.proofs.Grown.{grown_true, grown_false}
+use Rattle.lp_parts.proofs.Grown.{grown_true, grown_false}
 use Rattle.lp_reader.proofs.taking.Taking.build.Goals as goal
 
 pub returns-then-not-branch-2 : goal.returns-then-not-branch-2

@@ -1,0 +1,4 @@
+pub mod Gathered
+pub mod Grown
+pub mod KeptTerms
+pub mod Scaled

@@ -1,0 +1,11 @@
+use Rattle.std.proofs.Common.{rules}
+use Rattle.lp_grammar.specs.Taking.{row_of}
+use Rattle.lp_parts.proofs.scaling.make_row.Goals as goal
+
+pub returns-in-None : goal.returns-in-None
+unfolding row_of
+returns-in-None c = search rules
+
+pub returns-in-Some : goal.returns-in-Some
+unfolding row_of
+returns-in-Some c = search rules
