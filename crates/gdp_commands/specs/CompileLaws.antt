@@ -32,7 +32,7 @@ pub record IsRewrittenAs (m : ModelTree) (written : List ℕ) : Type 0 where
   pub spells : LpSpells written (written_program milp)
   pub exact : IsExactRewrite m milp
 
--- the line of a halt; that a row is unfit or that memory is wanting never halts a rewrite
+-- the line of a halt; that a row is unfit, or that memory ran out, never halts a rewrite
 abbrev pub HaltSays : ModelTree → Halt → List ℕ → Type 0
 HaltSays m (NoBound mark var) written = written ≡ no_bound_at mark (name_in (var_names m) var)
 HaltSays m (TooWide mark) written = written ≡ too_wide_at mark

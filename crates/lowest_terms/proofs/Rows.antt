@@ -83,7 +83,7 @@ list_same (x ∷ xs) (y ∷ ys) c h =
     (λ i. a i ∷ b i)
 
 pub one_lowest : OneLowest
-one_lowest x y z l a b =
+one_lowest x y z a b =
     let c : length y.nums ≡ length z.nums = a.count ∙ sym b.count in
     let p : IsPrimitive (suc (length y.nums)) (row_of z) = subst (λ n. IsPrimitive (suc n) (row_of z)) (sym c) b.lowest in
     let s = primitive_same_int (suc (length y.nums)) a.factor b.factor (row_of y) (row_of z) a.positive b.positive a.lowest p (λ j i. sym (a.same j) ∙ b.same j) in

@@ -1,5 +1,5 @@
 -- What bringing to lowest terms promises.
-use Rattle.std.specs.Prelude.{◌≡◌, ◌≢◌, pos, ◌<ℤ◌, Bool, List, [], ◌∷◌, None, Err, ℕ, ℤ, Ok}
+use Rattle.std.specs.Prelude.{◌≡◌, ◌≢◌, Bool, List, [], ◌∷◌, None, Err, ℕ, ℤ, Ok}
 use Rattle.fractions.specs.Fraction.{Fraction}
 use Rattle.int_linear.specs.Sums.{at}
 use Rattle.lp_rows.specs.Points.{PointValue}
@@ -17,7 +17,7 @@ use Rattle.lowest_terms.specs.Terms.{IsLowestOf}
 
 -- a point has one form in lowest terms
 abbrev pub OneLowest : Type 0
-OneLowest = (x y z : PointValue) → pos 0 <ℤ x.over → IsLowestOf x y → IsLowestOf x z → y ≡ z
+OneLowest = (x y z : PointValue) → IsLowestOf x y → IsLowestOf x z → y ≡ z
 
 -- it is a point of the same models, with the same value
 pub record LowestKeeps : Type 0 where

@@ -9,7 +9,7 @@ ghost use Rattle.search_rules.specs.Depth.{depth_place, are_halves};
 ghost use Rattle.search_rules.specs.Solved.{SolvesBy, IsDepthLog};
 ghost use Rattle.search_rules.specs.Claims.{Shows};
 ghost use Rattle.search_rules.specs.Problem.{Problem, AreNodes, IsAllowed, words_of};
-ghost use Rattle.search_rules.specs.Outcomes.{outcome_of, IsRightOutcome};
+ghost use Rattle.search_rules.specs.Outcomes.{outcome_at, outcome_of, IsRightOutcome};
 ghost use Rattle.search_rules.specs.Turns.{meaning_of, failure_of, HasTurned};
 
 use crate::board::Board;
@@ -151,6 +151,7 @@ impl<N: Promising + Drop> Search<N> {
         requires under_way { IsUnderWay (meaning_of (N.dead_of (searching_of self).nodes) (N.force_of (searching_of self).nodes) (N.loose_of (searching_of self).nodes) (N.test_of (searching_of self).nodes)) (searching_of self) }
         requires done { (searching_of self).rest.waiting ≡ [] }
         ensures right { IfOk result (λ r. IsRightOutcome (words_of (N.problem (searching_of self).nodes) (meaning_of (N.dead_of (searching_of self).nodes) (N.force_of (searching_of self).nodes) (N.loose_of (searching_of self).nodes) (N.test_of (searching_of self).nodes))) r.0) }
+        ensures outcome { IfOk result (λ r. r.0 ≡ outcome_at (searching_of self).rest) }
         ensures log { IfOk result (λ r. r.1 ≡ (searching_of self).log) }
     {
         is_right(&self);

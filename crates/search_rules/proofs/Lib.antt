@@ -9,3 +9,4 @@ pub mod Readings
 pub mod Deeper
 pub mod Solving
 pub mod OneAnswer
+pub mod AnswersOnce

@@ -122,7 +122,7 @@ one_wide m t used budget place other reached (inr a) (inl b) = absurd (not_both 
 one_wide m t used budget place other reached (inr a) (inr b) = one_stuck place other (sym a ∙ b)
 
 -- one stage ends in one way
-one_end : (m : Meaning) (t : Stage) (used budget : ℕ) (r q : Result (Unit {0}) Stop) → IsReachedAt m t → Ends t used budget r → Ends t used budget q → r ≡ q
+pub one_end : (m : Meaning) (t : Stage) (used budget : ℕ) (r q : Result (Unit {0}) Stop) → IsReachedAt m t → Ends t used budget r → Ends t used budget q → r ≡ q
 one_end m t used budget (Ok u) (Ok v) reached a b = refl
 one_end m t used budget (Ok u) (Err Steps) reached a b = absurd (complete_due t a b.1)
 one_end m t used budget (Ok u) (Err (Wide place)) reached a b = absurd (complete_wide t used budget place a b)

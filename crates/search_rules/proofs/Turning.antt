@@ -83,7 +83,7 @@ only_opened m log mid new r now place e x steps left result o same all came = re
   came = came;
 }
 
--- the node settled, on the board or where its memory was wanted
+-- the node settled, on the board or where memory ran out
 abbrev pub IsAfter : Stage → Rest → Result Turn TurnError → Type 0
 IsAfter s now (Ok turn) = SettlesAs s now turn
 IsAfter s now (Err error) = error ≡ Memory
@@ -136,7 +136,7 @@ stopped_turn m log mid new r now place e x steps left stop (Some item) o dead (i
 stopped_turn m log mid new r now place e x steps left stop None o alive (inl w) = stops m log mid new r now place e x steps left stop o alive w
 stopped_turn m log mid new r now place e x steps left stop None o alive (inr u) = absurd (let h = u.memory in cc)
 
--- memory was wanted
+-- memory ran out
 untouched : (m : Meaning) (log mid new : List Event) (r now : Rest) (place : ℕ) (e : Event) (x : Work) (steps left : ℕ) (result : Result Ending WorkError) → Opened log mid r place e x → IsUntouched steps left mid new result
     → HasOpened m r place log new (steps + 1) left now (Err Memory)
 untouched m log mid new r now place e x steps left result o u =

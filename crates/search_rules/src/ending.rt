@@ -24,6 +24,6 @@ pub enum Turn {
 pub enum TurnError {
     /// The search stops.
     Stopped(Stop),
-    /// Memory was wanted.
+    /// Memory ran out.
     Memory,
 }

@@ -13,7 +13,7 @@ use Rattle.exact_simplex.specs.Rays.{IsRayOf, IsRayRefusal}
 use Rattle.settling.specs.declared.ending.TestError.{TestError}
 use Rattle.settling.specs.declared.ending.TestError.TheVariants.{Wide, Memory}
 
--- the answer, or the place at which a number is wide; want of memory is the one free answer
+-- the answer, or the place at which a number is wide; that memory ran out is the one free answer
 abbrev pub Answers : {A : Type 0} → (Result A WideAt → Type 0) → Result A TestError → Type 0
 Answers Holds (Ok answer) = Holds (Ok answer)
 Answers Holds (Err (Wide place)) = Holds (Err place)

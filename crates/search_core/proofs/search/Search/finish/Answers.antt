@@ -23,3 +23,9 @@ returns-clause-right g c =
     let e : c.ended_with.result ≡ outcome_of c.args.self.board.best c.in-Ok.proof = c.ended_with.ensures ∙ ap (λ b. outcome_of b c.in-Ok.proof) c.best_of.ensures in
     subst (IsRightOutcome w) (sym e)
     (outcome_right w c.args.self.board.best c.in-Ok.proof (tree_of (draft_of c.args.self.board.arena.slots.items)) c.is_right.ensures.0 c.is_right.ensures.1 (sym (c.in-Ok.ensures.kept ∙ c.in_ok-nodes.ensures)))
+
+pub returns-clause-outcome : goal.returns-clause-outcome
+returns-clause-outcome g c =
+    c.ended_with.ensures
+    ∙ ap (λ b. outcome_of b c.in-Ok.proof) c.best_of.ensures
+    ∙ ap (λ nodes. outcome_of c.args.self.board.best nodes) (c.in-Ok.ensures.kept ∙ c.in_ok-nodes.ensures)
