@@ -20,3 +20,4 @@ mod Testing
 mod Unread
 mod Unshelved
 mod Valid
+pub mod SolvesOnce

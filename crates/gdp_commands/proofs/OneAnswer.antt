@@ -33,10 +33,10 @@ use Rattle.gdp_commands.specs.Table.{Answer, Is, FirstIf, For, Parsed, IsOne}
 use Rattle.gdp_commands.specs.Test.{VerdictSays, TestSays}
 use Rattle.gdp_commands.specs.Texts.{IsPoint, ModelSays, PointSays}
 
-one_is : (status : Status) (text : List ℕ) → IsOne (Is status text)
+pub one_is : (status : Status) (text : List ℕ) → IsOne (Is status text)
 one_is status text s s' t t' a b = (a.0 ∙ sym b.0, a.1 ∙ sym b.1)
 
-one_first_if : (condition : Type 0) (status : Status) (text : List ℕ) (below : Answer) → IsOne below → IsOne (FirstIf condition status text below)
+pub one_first_if : (condition : Type 0) (status : Status) (text : List ℕ) (below : Answer) → IsOne below → IsOne (FirstIf condition status text below)
 one_first_if condition status text below one s s' t t' (inl a) (inl b) = one_is status text s s' t t' a.1 b.1
 one_first_if condition status text below one s s' t t' (inl a) (inr b) = absurd (b.0 a.0)
 one_first_if condition status text below one s s' t t' (inr a) (inl b) = absurd (a.0 b.0)
@@ -63,7 +63,7 @@ one_verdict (Ok Holds) = one_is _ _
 one_verdict (Ok (FailsAt mark)) = one_is _ _
 one_verdict (Err wide) = one_is _ _
 
-one_of_model : (name text : List ℕ) (below : ModelTree → Answer) → ((m : ModelTree) → IsOne (below m)) → IsOne (ModelSays name text below)
+pub one_of_model : (name text : List ℕ) (below : ModelTree → Answer) → ((m : ModelTree) → IsOne (below m)) → IsOne (ModelSays name text below)
 one_of_model name text below one = one_parsed _ _ _ _ _ (one_first_bad text) (never_both text) (one_model text) one
 
 -- a text spells at most one point of a model
@@ -89,7 +89,7 @@ pub one_format : (model model_text : List ℕ) → IsOne (FormatSays model model
 one_format model model_text =
     one_first_if _ _ _ _ (one_of_model model model_text _ (λ m. one_is Done (canonical_text m)))
 
-one_refused : (m : ModelTree) (error : CompileError) → IsOne (RefusedSays m error)
+pub one_refused : (m : ModelTree) (error : CompileError) → IsOne (RefusedSays m error)
 one_refused m (NoBound mark var) = one_is _ _
 one_refused m (MTooWide mark) = one_is _ _
 one_refused m TooBig = one_is _ _

@@ -1,3 +1,4 @@
 pub mod Accepting
 pub mod Claiming
 pub mod Right
+pub mod SolvesOnce

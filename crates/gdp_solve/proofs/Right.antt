@@ -51,7 +51,7 @@ ok_is : (a b : Claim) (r : Result Claim WideAt) → r ≡ Ok a → r ≡ Ok b �
 ok_is a b r e h = cc
 
 program_counted : (m : ModelTree) (a : Answer) (claim : Claim) → program.IsMadeOf m a (Ok claim) → IsCounted m claim
-program_counted m (answer.Done (outcome.Best b proof)) claim c = subst (IsCounted m) (sym c.3.1) (c.3.0.lowest.count ∙ c.3.0.is_cut.count, c.3.0.is_cut.flags)
+program_counted m (answer.Done (outcome.Best b proof)) claim c = subst (IsCounted m) (sym c.3.2) (c.3.0.lowest.count ∙ c.3.0.is_cut.count, c.3.0.is_cut.flags)
 program_counted m (answer.Done (outcome.Empty proof)) claim c = subst (IsCounted m) (sym (ok_is claim (Empty proof) (Ok claim) refl c)) tt
 program_counted m (answer.Endless at truths ray) claim c = subst (IsCounted m) (sym c.3.2) (c.3.0.lowest.count ∙ c.3.0.is_cut.count, c.3.0.is_cut.flags, c.3.1.count)
 program_counted m (answer.Stopped stop) claim c = absurd c

@@ -13,7 +13,7 @@ pub mod laws;
 pub mod logic;
 pub mod routes;
 
-pub use laws::claims_are_right;
+pub use laws::{claims_are_right, solves_once};
 pub use logic::solve_by_logic;
 pub use rewrite_solving::Reached;
 pub use routes::solve;

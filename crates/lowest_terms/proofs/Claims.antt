@@ -39,7 +39,7 @@ second_fails p q e h k = rw (← h, ← k) refl
 
 pub best_passes : (m : ModelTree) (y : PointValue) (truths : List Bool) (proof : List Node) (v : Fraction) → Ok tt ≡ point_group m y truths → IsValueOf m.goal y v → true ≡ value_fits m.goal y
     → IsBestOf m y truths proof (Ok (Best y truths v proof))
-best_passes m y truths proof v h k f = (v, refl, both_pass (point_group m y truths) (value_group m.goal y v) h (value_passes m.goal y v k f))
+best_passes m y truths proof v h k f = (v, refl, both_pass (point_group m y truths) (value_group m.goal y v) h (value_passes m.goal y v k f), k)
 
 pub best_fails : (m : ModelTree) (y : PointValue) (truths : List Bool) (proof : List Node) (e : AnswerError) → Err e ≡ point_group m y truths → IsBestOf m y truths proof (Err e)
 best_fails m y truths proof e h = first_fails (point_group m y truths) (size_group m.goal y) e h

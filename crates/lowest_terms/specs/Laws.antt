@@ -1,5 +1,5 @@
 -- What bringing to lowest terms promises.
-use Rattle.std.specs.Prelude.{◌≡◌, ◌≢◌, Bool, List, [], ◌∷◌, None, Err, ℕ, ℤ, Ok}
+use Rattle.std.specs.Prelude.{◌≡◌, ◌≢◌, Bool, List, [], ◌∷◌, None, Result, Err, ℕ, ℤ, Ok}
 use Rattle.fractions.specs.Fraction.{Fraction}
 use Rattle.int_linear.specs.Sums.{at}
 use Rattle.lp_rows.specs.Points.{PointValue}
@@ -12,12 +12,23 @@ use Rattle.model_claims.specs.Claims.{IsPoint, HasValue, IsEndless}
 use Rattle.answer_tests.specs.Rays.{ray_tests}
 use Rattle.answer_tests.specs.declared.errors.AnswerError.{AnswerError}
 use Rattle.answer_tests.specs.Groups.{first_error, point_group, ray_group}
-use Rattle.lowest_terms.specs.Made.{size_group, wide_place}
+use Rattle.answers.specs.declared.claim.Claim.{Claim}
+use Rattle.proof_tree.specs.declared.proof.Node.{Node}
+use Rattle.lowest_terms.specs.declared.making.MakeError.{MakeError}
+use Rattle.lowest_terms.specs.declared.making.MakeError.TheVariants.{Memory}
+use Rattle.lowest_terms.specs.Made.{IsBestOf, IsEndlessOf, IsMade, size_group, wide_place}
 use Rattle.lowest_terms.specs.Terms.{IsLowestOf}
 
 -- a point has one form in lowest terms
 abbrev pub OneLowest : Type 0
 OneLowest = (x y z : PointValue) → IsLowestOf x y → IsLowestOf x z → y ≡ z
+
+-- what is made of a point is one claim, or one test that does not pass, where memory does not run out
+pub record MadeOnce : Type 0 where
+  pub best : (m : ModelTree) (x : PointValue) (truths : List Bool) (proof : List Node) (r q : Result Claim MakeError) → r ≢ Err Memory → q ≢ Err Memory
+      → IsMade x (λ y s. IsBestOf m y truths proof s) r → IsMade x (λ y s. IsBestOf m y truths proof s) q → r ≡ q
+  pub endless : (m : ModelTree) (x : PointValue) (truths : List Bool) (ray : List ℤ) (r q : Result Claim MakeError) → r ≢ Err Memory → q ≢ Err Memory
+      → IsMade x (λ y s. IsEndlessOf m y truths ray s) r → IsMade x (λ y s. IsEndlessOf m y truths ray s) q → r ≡ q
 
 -- it is a point of the same models, with the same value
 pub record LowestKeeps : Type 0 where

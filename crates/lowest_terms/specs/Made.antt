@@ -6,7 +6,7 @@ use Rattle.lp_rows.specs.declared.columns.WideAt.TheVariants as wide_at
 use Rattle.lp_rows.specs.Points.{PointValue}
 use Rattle.proof_tree.specs.declared.proof.Node.{Node}
 use Rattle.model_tree.specs.Values.{GoalValue, ModelTree}
-use Rattle.point_tests.specs.Worth.{value_fits}
+use Rattle.point_tests.specs.Worth.{IsValueOf, value_fits}
 use Rattle.answers.specs.declared.claim.Claim.{Claim}
 use Rattle.answers.specs.declared.claim.Claim.TheVariants.{Best, Endless}
 use Rattle.answer_tests.specs.declared.errors.AnswerError.{AnswerError}
@@ -20,9 +20,9 @@ use Rattle.lowest_terms.specs.Terms.{IsLowestOf}
 abbrev pub size_group : GoalValue → PointValue → Result (Unit {0}) AnswerError
 size_group g x = if value_fits g x then Ok tt else Err answer_error.ValueWide
 
--- a best claim of this point with its value passes its tests; or the first that does not pass is this
+-- a best claim of this point with its value in lowest terms passes its tests; or the first that does not pass is this
 abbrev pub IsBestOf : ModelTree → PointValue → List Bool → List Node → Result Claim AnswerError → Type 0
-IsBestOf m y truths proof (Ok claim) = (v : Fraction) × (claim ≡ Best y truths v proof) × (first_error (claim_groups m claim) ≡ Ok tt)
+IsBestOf m y truths proof (Ok claim) = (v : Fraction) × (claim ≡ Best y truths v proof) × (first_error (claim_groups m claim) ≡ Ok tt) × IsValueOf m.goal y v
 IsBestOf m y truths proof (Err error) = first_error (point_group m y truths ∷ size_group m.goal y ∷ []) ≡ Err error
 
 -- an endless claim of this point and ray, likewise

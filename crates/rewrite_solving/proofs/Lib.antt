@@ -5,3 +5,5 @@ pub mod Accepted
 pub mod Places
 pub mod Making
 pub mod Whole
+pub mod Comes
+pub mod SolvedOnce

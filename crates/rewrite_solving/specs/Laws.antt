@@ -1,5 +1,5 @@
 -- What the answer of a search over a rewrite of a model says of the model.
-use Rattle.std.specs.Prelude.{◌≡◌, ℤ, pos, ◌<ℤ◌, Bool, true, List, Some, None, Ok}
+use Rattle.std.specs.Prelude.{◌≡◌, ℕ, ℤ, pos, ◌<ℤ◌, Bool, true, List, Some, None, Ok}
 use Rattle.fractions.specs.Fraction.{Fraction}
 use Rattle.int_linear.specs.Sums.{at}
 use Rattle.lp_rows.specs.Points.{PointValue}
@@ -27,6 +27,9 @@ use Rattle.certificate_checker.specs.Answers.{answer_groups}
 use Rattle.lowest_terms.specs.Terms.{IsLowestOf}
 use Rattle.hybrid_rewrite.specs.Rewritten.{IsExactRewrite}
 use Rattle.rewrite_solving.specs.Cuts.{IsCutOf, IsRayCutOf}
+use Rattle.rewrite_solving.specs.declared.reached.Reached.{Reached}
+use Rattle.rewrite_solving.specs.Reached.{AreSame}
+use Rattle.rewrite_solving.specs.Solutions.{IsSolution}
 
 abbrev pub IsRight : MilpValue → Outcome → Type 0
 IsRight milp o = IsRightOutcome (words_of (problem_of milp) (milp_meaning milp)) o
@@ -52,3 +55,7 @@ EmptyIsAccepted = (m : ModelTree) (milp : MilpValue) (proof : List Node) → IsS
 abbrev pub RaysAreEndless : Type 0
 RaysAreEndless = (m : ModelTree) (milp : MilpValue) (from x : PointValue) (found truths : List Bool) (ray cut : List ℤ) → IsSound m → IsExactRewrite m milp → pos 0 <ℤ from.over
     → (problem_of milp).endless (found_at from found) ray → IsCutOf m from x truths → IsRayCutOf m ray cut → IsEndless m (point_of x truths) (at cut)
+
+-- The program and the budget fix what solving over it comes to.
+abbrev pub SolvedOnce : Type 0
+SolvedOnce = (m : ModelTree) (milp : MilpValue) (steps : ℕ) (reached other : Reached) → IsSolution m milp steps reached → IsSolution m milp steps other → AreSame reached other

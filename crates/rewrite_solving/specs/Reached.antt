@@ -1,5 +1,5 @@
 -- What solving comes to.
-use Rattle.std.specs.Prelude.{Result, Ok, Err}
+use Rattle.std.specs.Prelude.{◌≡◌, Result, Ok, Err}
 use Rattle.lp_rows.specs.declared.columns.WideAt.{WideAt}
 use Rattle.exact_simplex.specs.Log.{LogOf}
 use Rattle.answers.specs.declared.claim.Claim.{Claim}
@@ -11,3 +11,10 @@ use Rattle.rewrite_solving.specs.declared.reached.Reached.TheVariants.{Claimed, 
 abbrev pub reached_by : Result Claim WideAt → LogOf → Reached
 reached_by (Ok claim) log = Claimed claim
 reached_by (Err place) log = GaveUp log (Wide place)
+
+-- the same claim; or give-ups with the same log for the same cause
+abbrev pub AreSame : Reached → Reached → Type 0
+AreSame (Claimed claim) (Claimed other) = claim ≡ other
+AreSame (GaveUp log stop) (GaveUp other why) = (log.events ≡ other.events) × (stop ≡ why)
+AreSame (Claimed claim) (GaveUp log stop) = ⊥
+AreSame (GaveUp log stop) (Claimed claim) = ⊥

@@ -4,6 +4,7 @@ use Rattle.fractions.specs.Fraction.{Fraction}
 use Rattle.lp_rows.specs.declared.columns.WideAt.{WideAt}
 use Rattle.lp_rows.specs.Points.{PointValue}
 use Rattle.model_tree.specs.Values.{ModelTree}
+use Rattle.point_tests.specs.Worth.{IsValueOf}
 use Rattle.hull_rewrite.specs.declared.choices.Choice.{Choice}
 use Rattle.hybrid_rewrite.specs.Chosen.{flagging}
 use Rattle.milps.specs.Milps.{MilpValue}
@@ -46,9 +47,9 @@ pub record IsAccepted (m : ModelTree) (milp : MilpValue) (claim : Claim) : Type 
   pub true_of : IsTrueOf m claim
   pub accepted : first_error (answer_groups m (subject_of milp) (least_for milp (best_of claim)) claim) ≡ Ok tt
 
--- the claim of a search's point, cut and in lowest terms; or the place at which one of the claim's own tests is wide
+-- the claim of a search's point, cut and in lowest terms, with its value; or the place at which one of the claim's own tests is wide
 abbrev pub IsBestMade : ModelTree → PointValue → List Node → Result Claim WideAt → Type 0
-IsBestMade m x proof (Ok claim) = (y : PointValue) × (truths : List Bool) × (v : Fraction) × (IsLowestCut m x y truths × (claim ≡ Best y truths v proof))
+IsBestMade m x proof (Ok claim) = (y : PointValue) × (truths : List Bool) × (v : Fraction) × (IsLowestCut m x y truths × IsValueOf m.goal y v × (claim ≡ Best y truths v proof))
 IsBestMade m x proof (Err place) = (y : PointValue) × (truths : List Bool) × (error : AnswerError)
     × (IsLowestCut m x y truths × (first_error (point_group m y truths ∷ size_group m.goal y ∷ []) ≡ Err error) × (wide_place error ≡ Some place))
 

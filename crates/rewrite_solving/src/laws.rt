@@ -1,6 +1,6 @@
 //! The laws, each the contract of a function with an empty body.
 
-ghost use Rattle.rewrite_solving.specs.Laws.{BestIsAccepted, CutsArePoints, EmptyIsAccepted, RaysAreEndless};
+ghost use Rattle.rewrite_solving.specs.Laws.{BestIsAccepted, CutsArePoints, EmptyIsAccepted, RaysAreEndless, SolvedOnce};
 
 /// The cut of a best point is a point of the model.
 pub fn cuts_are_points()
@@ -20,4 +20,9 @@ pub fn empty_is_accepted()
 /// A ray of the program leads, cut, to points of the model without end.
 pub fn rays_are_endless()
     ensures { RaysAreEndless }
+{}
+
+/// The program and the budget fix what solving over it comes to.
+pub fn solved_once()
+    ensures { SolvedOnce }
 {}
