@@ -1,4 +1,5 @@
 pub mod Cuts
+pub mod FirstBytes
 pub mod FirstLines
 pub mod NameWords
 pub mod Ratios

@@ -2,6 +2,7 @@
 
 ghost use Rattle.std.specs.Prelude.{◌≡◌, map, length, drop, IfSome, IfNone};
 ghost use Rattle.std.specs.Option.{option_map};
+ghost use Rattle.std.specs.Str.{bytes_eq};
 ghost use Rattle.text_grammar.specs.Outcomes.{result_map};
 ghost use Rattle.gdp_grammar.specs.Keywords.{is_reserved as is_reserved_word};
 ghost use Rattle.gdp_grammar.specs.Forms.{
@@ -78,22 +79,29 @@ pub enum Form<'a> {
     End,
 }
 
+/// Whether the word is this one. Most words differ in their lengths.
+fn is_word(word: &str, other: &str) -> bool
+    ensures { result ≡ bytes_eq word.now other.now }
+{
+    word.len() == other.len() && word == other
+}
+
 /// Whether the word is no name.
 #[tactic(auto, unfolding(model_tree::specs::Names::reserved_words))]
 pub fn is_reserved(word: &str) -> bool
     ensures { result ≡ is_reserved_word word.now }
 {
-    word == "not"
-        || word == "and"
-        || word == "or"
-        || word == "implies"
-        || word == "equivalent"
-        || word == "xor"
-        || word == "exactly"
-        || word == "atleast"
-        || word == "atmost"
-        || word == "inf"
-        || word == "end"
+    is_word(word, "not")
+        || is_word(word, "and")
+        || is_word(word, "or")
+        || is_word(word, "implies")
+        || is_word(word, "equivalent")
+        || is_word(word, "xor")
+        || is_word(word, "exactly")
+        || is_word(word, "atleast")
+        || is_word(word, "atmost")
+        || is_word(word, "inf")
+        || is_word(word, "end")
 }
 
 /// Nothing is left.

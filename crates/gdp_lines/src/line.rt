@@ -1,18 +1,27 @@
 //! Takes a text apart into its lines.
 
-ghost use Rattle.std.specs.Prelude.{◌≡◌, ℕ, ◌<◌, ◌∷◌, length};
+ghost use Rattle.std.specs.Prelude.{◌≡◌, ℕ, ◌<◌, ◌∷◌, ◌==◌, length, not};
+ghost use Rattle.text_grammar.specs.Bytes.{front, rest};
 ghost use Rattle.text_grammar.specs.Lines.{lines_of};
 ghost use Rattle.gdp_grammar.specs.Lines.{without_comment as before_comment};
 ghost use Rattle.text_grammar.specs.Lines.{without_return as before_return};
 
-use crate::class::split_front;
-use gdp_grammar::Class;
+use memchr::memchr;
+
+/// The bytes before the first that is this one, and what follows them.
+fn split_before(bytes: &[u8], byte: u8) -> (&[u8], &[u8])
+    ensures front { result.0.now ≡ front (λ b. not (b == byte)) bytes.now }
+    ensures rest { result.1.now ≡ rest (λ b. not (b == byte)) bytes.now }
+{
+    let end = memchr(byte, bytes).unwrap_or(bytes.len());
+    (&bytes[..end], &bytes[end..])
+}
 
 /// The line without its comment.
 pub fn without_comment(line: &[u8]) -> &[u8]
     ensures { result.now ≡ before_comment line.now }
 {
-    split_front(line, Class::Content).0
+    split_before(line, b'#').0
 }
 
 /// The line without a carriage return at its end.
@@ -35,7 +44,7 @@ pub fn first_line(text: &[u8]) -> (&[u8], &[u8])
     ensures lines { lines_of text.now ≡ result.0.now ∷ lines_of result.1.now }
     ensures shorter { length result.1.now < length text.now }
 {
-    let (line, rest) = split_front(text, Class::Line);
+    let (line, rest) = split_before(text, b'\n');
     if rest.is_empty() {
         return (line, rest);
     }

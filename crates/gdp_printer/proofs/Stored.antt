@@ -1,5 +1,5 @@
 -- Rows that are stored, part by part.
-use Rattle.std.proofs.Common.{◌≡◌, ℕ, suc, ◌+◌, ◌<◌, Bool, true, false, ◌&&◌, List, length, get_or, drop, drop-cons, add-one, refl, ap, sym, ◌∙◌}
+use Rattle.std.proofs.Common.{◌≡◌, ℕ, suc, ◌+◌, ◌<◌, Bool, true, false, ◌&&◌, List, length, get_or, drop, drop-cons, add-one, ap, sym, ◌∙◌}
 use Rattle.lp_rows.specs.Rows.{RowValue}
 use Rattle.model_tree.specs.declared.tree.Disjunct.{Disjunct}
 use Rattle.model_tree.specs.declared.tree.Disjunction.{Disjunction}

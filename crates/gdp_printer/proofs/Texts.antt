@@ -1,5 +1,5 @@
 -- Texts that grow part by part.
-use Rattle.std.proofs.Common.{◌≡◌, ◌≢◌, ℕ, zero, suc, ◌+◌, ℤ, pos, negsuc, false, ◌==◌, List, [], ◌∷◌, ◌++◌, map, codes, append_assoc, append-nil, Result, Ok, Err, OnOk, refl, ap, sym, ◌∙◌, arith}
+use Rattle.std.proofs.Common.{◌≡◌, ◌≢◌, ℕ, zero, suc, ℤ, pos, negsuc, false, ◌==◌, List, [], ◌∷◌, ◌++◌, map, codes, append_assoc, append-nil, Result, Ok, Err, OnOk, refl, ap, sym, ◌∙◌, arith}
 use Rattle.std.proofs.lemmas.Bool.Decides.{nat_tests}
 use Rattle.lp_rows.specs.Rows.{RowValue}
 use Rattle.propositions.specs.Tree.{PropTree}

@@ -8,6 +8,7 @@ ghost use Rattle.gdp_grammar.specs.Lowest.{over};
 
 use fractions::Frac;
 use gdp_io::Text;
+use itoa::Buffer;
 use outcomes::Memory;
 use std::alloc::Global;
 
@@ -16,10 +17,7 @@ pub fn quotient(number: i128, scale: i128) -> Frac
     requires { pos 0 <ℤ scale }
     ensures { result ≡ over scale number }
 {
-    match Frac::new(number, scale) {
-        Some(quotient) => quotient,
-        None => unreachable!(),
-    }
+    Frac::reduced(number, scale)
 }
 
 /// A blank and a word.
@@ -34,8 +32,8 @@ pub fn put_word(alloc: Global, text: &mut Text, word: &[u8]) -> Result<(), Memor
 pub fn put_digits(alloc: Global, text: &mut Text, number: u128) -> Result<(), Memory>
     ensures { OnOk result (text.new ≡ text.old ++ decimal number) }
 {
-    let digits = number.to_string(alloc)?;
-    text.append(alloc, digits.as_bytes())
+    let mut digits = Buffer::new();
+    text.append(alloc, digits.format(number).as_bytes())
 }
 
 // The magnitude of a number: `p`, or `p/q`.

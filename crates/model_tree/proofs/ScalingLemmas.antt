@@ -40,6 +40,13 @@ pub record IsScaleSoFar (scale : ℕ) (rest ds : List ℕ) : Type 0 where
   pub forth : (m : ℕ) → all_divide ds m ≡ true → (scale ∣ m) × (all_divide rest m ≡ true)
   pub back : (m : ℕ) → scale ∣ m → all_divide rest m ≡ true → all_divide ds m ≡ true
 
+-- 1 changes no multiple
+pub lcm_with_one : (a b : ℤ) → b ≡ pos 1 → IsLcm (unsigned_abs a) (unsigned_abs b) (unsigned_abs a)
+lcm_with_one a b e = subst (λ n. IsLcm (unsigned_abs a) (unsigned_abs n) (unsigned_abs a)) (sym e) (with_one (unsigned_abs a))
+  where
+    with_one : (n : ℕ) → IsLcm n 1 n
+    with_one n = record { first = dvd_refl n; second = dvd_of_mod-eq-zero 1 (omega arith); least = λ m f s. f }
+
 pub scale_begins : (d : ℕ) (ds : List ℕ) → IsScaleSoFar d ds (d ∷ ds)
 scale_begins d ds = record {
   forth = λ m h. let p = both (is_multiple d m) (all_divide ds m) h in (divides d m p.0, p.1);

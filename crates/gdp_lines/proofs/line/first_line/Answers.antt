@@ -7,10 +7,10 @@ use Rattle.gdp_lines.proofs.FirstLines.{whole_line, cut_line}
 use Rattle.gdp_lines.proofs.line.first_line.Goals as goal
 
 pub returns-then-is_empty-clause-lines : goal.returns-then-is_empty-clause-lines
-returns-then-is_empty-clause-lines c = whole_line c.args.text.now c.split_front.result.0.now c.split_front.result.1.now c.requires c.split_front.ensures.front c.split_front.ensures.rest (grind (arith, common_steps))
+returns-then-is_empty-clause-lines c = whole_line c.args.text.now c.split_before.result.0.now c.split_before.result.1.now c.requires c.split_before.ensures.front c.split_before.ensures.rest (grind (arith, common_steps))
 
 pub returns-clause-lines : goal.returns-clause-lines
-returns-clause-lines c = cut_line c.args.text.now c.split_front.result.0.now c.split_front.result.1.now c.without_return.result.now c.split_front.ensures.front c.split_front.ensures.rest (grind (arith, common_steps)) c.without_return.ensures
+returns-clause-lines c = cut_line c.args.text.now c.split_before.result.0.now c.split_before.result.1.now c.without_return.result.now c.split_before.ensures.front c.split_before.ensures.rest (grind (arith, common_steps)) c.without_return.ensures
 
 pub returns-clause-shorter : goal.returns-clause-shorter
-returns-clause-shorter c = simp (length-take, length-drop) (omega (arith, ap length c.split_front.ensures.rest, rest_shorter class.Line c.args.text.now))
+returns-clause-shorter c = simp (length-take, length-drop) (omega (arith, ap length c.split_before.ensures.rest, rest_shorter class.Line c.args.text.now))

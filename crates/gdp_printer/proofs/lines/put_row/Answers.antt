@@ -1,4 +1,4 @@
-use Rattle.std.proofs.Common.{rules, ap, refl, pos, FitsSigned}
+use Rattle.std.proofs.Common.{rules, pos, FitsSigned}
 use Rattle.std.proofs.lemmas.Int.{to_z-of_z}
 use mir.Syntax.{w128}
 use Rattle.model_tree.specs.Values.{model_tree}

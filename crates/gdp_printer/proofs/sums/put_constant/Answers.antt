@@ -1,4 +1,4 @@
-use Rattle.std.proofs.Common.{rules, pos, ap, refl, sym, ◌∙◌, ◌≢◌, FitsSigned, of_z}
+use Rattle.std.proofs.Common.{pos, ap, ◌∙◌, ◌≢◌, of_z}
 use Rattle.std.proofs.lemmas.Int.{to_z-of_z}
 use mir.Syntax.{w128}
 use Rattle.gdp_grammar.specs.Lowest.{over}
