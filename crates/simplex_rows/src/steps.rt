@@ -72,10 +72,10 @@ pub fn factors(p: i128, f: i128) -> (i128, i128)
         return (1, f);
     }
     let divisor = divisor_of_both(p, f);
-    (exact_quotient(p, divisor), exact_quotient(f, divisor))
+    (entry_quotient(p, divisor), entry_quotient(f, divisor))
 }
 
-/// The greatest common divisor of a divisor and an entry.
+/// The greatest common divisor of a divisor and an entry: one division where the divisor divides the entry.
 #[inline(always)]
 pub(crate) fn divisor_with(divisor: u128, entry: i128) -> u128
     ensures { IsGcd divisor (unsigned_abs entry) result }
@@ -83,18 +83,40 @@ pub(crate) fn divisor_with(divisor: u128, entry: i128) -> u128
     if entry == 0 {
         return divisor;
     }
-    gcd_of_magnitudes(divisor, entry.unsigned_abs())
+    gcd_of_magnitudes(entry.unsigned_abs(), divisor)
 }
 
-/// An entry over a positive divisor of it; 0 is not divided.
+/// Whether the number and its negative fit a word of 64 bits.
+#[inline(always)]
+fn is_word(z: i128) -> bool
+    ensures { IsTrue result ↔ (unsigned_abs z < 2 ^ 63) }
+{
+    z.unsigned_abs() < 0x8000_0000_0000_0000
+}
+
+/// A word over a positive divisor of it.
+#[inline(always)]
+fn word_quotient(entry: i64, divisor: i64) -> i64
+    requires positive { pos 0 <ℤ divisor }
+    requires divides { unsigned_abs divisor ∣ unsigned_abs entry }
+    ensures { result *ℤ divisor ≡ entry }
+{
+    entry / divisor
+}
+
+/// An entry over a positive divisor of it, as words where both are.
 #[inline(always)]
 pub(crate) fn entry_quotient(entry: i128, divisor: i128) -> i128
     requires positive { pos 0 <ℤ divisor }
     requires divides { unsigned_abs divisor ∣ unsigned_abs entry }
     ensures { result *ℤ divisor ≡ entry }
 {
-    if entry == 0 {
-        return 0;
+    if divisor != 1 {
+        if is_word(entry) {
+            if is_word(divisor) {
+                return i128::from(word_quotient(entry as i64, divisor as i64));
+            }
+        }
     }
     exact_quotient(entry, divisor)
 }
