@@ -1,3 +1,4 @@
+pub mod Bits
 pub mod RowSteps
 pub mod Choice
 pub mod Directions

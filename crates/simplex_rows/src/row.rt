@@ -12,7 +12,7 @@ ghost use Rattle.simplex_rows.specs.Index.{IsIndexOf};
 ghost use Rattle.simplex_rows.specs.Steps.{IsCleared, IsPivotRow, KeepsEntry};
 ghost use Rattle.simplex_rows.specs.Width.{IsNarrowRow, IsNarrowStepOf, IsFirstWideStep};
 
-use crate::index::is_set;
+use crate::index::{is_set, next_row};
 use crate::lists::{Lists, entry_of, first_entry, first_positive, first_wide};
 use crate::slices::{is_small, make_primitive};
 use crate::steps::is_negative;
@@ -255,9 +255,13 @@ fn gather(lists: &mut Lists, rows: &[Row], column: usize, index: &[u64], words: 
 {
     lists.columns.clear();
     lists.entries.clear();
-    for i in 0..rows.len() {
+    let mut i = 0;
+    while i < rows.len() {
         if is_set(index, words, column, i) {
             lists.put(i, rows[i].entry(column));
+            i += 1;
+        } else {
+            i = next_row(index, words, column, i, rows.len());
         }
     }
 }
