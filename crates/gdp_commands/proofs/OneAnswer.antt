@@ -33,7 +33,7 @@ use Rattle.gdp_commands.specs.Table.{Answer, Is, FirstIf, For, Parsed, IsOne}
 use Rattle.gdp_commands.specs.Test.{VerdictSays, TestSays}
 use Rattle.gdp_commands.specs.Texts.{IsPoint, ModelSays, PointSays}
 
-pub one_is : (status : Status) (text : List ℕ) → IsOne (Is status text)
+one_is : (status : Status) (text : List ℕ) → IsOne (Is status text)
 one_is status text s s' t t' a b = (a.0 ∙ sym b.0, a.1 ∙ sym b.1)
 
 pub one_first_if : (condition : Type 0) (status : Status) (text : List ℕ) (below : Answer) → IsOne below → IsOne (FirstIf condition status text below)

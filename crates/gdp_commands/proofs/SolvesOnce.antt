@@ -1,5 +1,5 @@
 -- `solve` and `bench` have one answer.
-use Rattle.std.proofs.Common.{◌≡◌, ◌≢◌, ℕ, List, Some, Result, Ok, Err, sym, ap, ◌∙◌, subst}
+use Rattle.std.proofs.Common.{◌≡◌, ℕ, List, Some, Result, Ok, Err, sym, ap, ◌∙◌, subst}
 use Rattle.answers.specs.declared.answer.Answer as answers
 use Rattle.answers.specs.declared.answer.Route.{Route}
 use Rattle.answers.specs.declared.claim.Claim.{Claim}
@@ -18,12 +18,13 @@ use Rattle.rewrite_solving.specs.declared.reached.Reached.{Reached}
 use Rattle.rewrite_solving.specs.declared.reached.Reached.TheVariants.{Claimed, GaveUp}
 use Rattle.gdp_commands.specs.declared.status.Status.{Status}
 use Rattle.gdp_commands.specs.declared.status.Status.TheVariants as status
-use Rattle.gdp_commands.specs.Bench.{BenchSays, BenchedSays, bench_text, claim_line}
+use Rattle.gdp_commands.specs.Bench.{BenchedSays, bench_text, claim_line}
 use Rattle.gdp_commands.specs.Compile.{RefusedSays}
 use Rattle.gdp_commands.specs.Solve.{ReachedSays, SolveSays}
-use Rattle.gdp_commands.specs.SolveLaws.{BenchesOnce, SolvesOnce}
-use Rattle.gdp_commands.specs.Table.{Answer, For, Is, IsOne}
-use Rattle.gdp_commands.proofs.OneAnswer.{one_first_if, one_is, one_of_model, one_refused}
+use Rattle.gdp_commands.specs.MakeLaws.{BenchesOnce}
+use Rattle.gdp_commands.specs.SolveLaws.{SolvesOnce}
+use Rattle.gdp_commands.specs.Table.{Answer, For, IsOne}
+use Rattle.gdp_commands.proofs.OneAnswer.{one_first_if, one_of_model, one_refused}
 
 -- two answers that say one thing
 abbrev SaySame : Answer → Answer → Type 0

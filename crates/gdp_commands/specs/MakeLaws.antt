@@ -9,6 +9,7 @@ use Rattle.model_maker.specs.Generated.{generated}
 use Rattle.gdp_commands.specs.declared.status.Status.TheVariants.{Done}
 use Rattle.gdp_commands.specs.Answers.{Says}
 use Rattle.gdp_commands.specs.Bench.{bench_text, claim_line}
+use Rattle.gdp_commands.specs.Table.{IsOne}
 use Rattle.gdp_commands.specs.Words.Form.{Make, Bench}
 
 -- What `make` answers with status 0 is the canonical text of the model that the seed and the size give.
@@ -29,3 +30,7 @@ abbrev pub BenchesTruly : Type 0
 BenchesTruly =
     (route : Route) (steps seed size : ℕ) (contents : Contents) (written : List ℕ) →
     Says (Bench route steps seed size) contents Done written → IsBenchedAs route seed size written
+
+-- The words fix what `bench` answers.
+abbrev pub BenchesOnce : Type 0
+BenchesOnce = (route : Route) (steps seed size : ℕ) (contents : Contents) → IsOne (Says (Bench route steps seed size) contents)

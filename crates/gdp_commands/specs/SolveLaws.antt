@@ -1,4 +1,4 @@
--- What `solve`, `bench` and `check` promise of what they write.
+-- What `solve` and `check` promise of what they write.
 use Rattle.std.specs.Prelude.{◌≡◌, ℕ, List, Some, Ok}
 use Rattle.answer_checker.specs.Valid.{IsValid}
 use Rattle.answer_tests.specs.Laws.{IsTrueOf}
@@ -23,7 +23,7 @@ use Rattle.gdp_commands.specs.CompileLaws.{SpellsBehind}
 use Rattle.gdp_commands.specs.Solve.{SolveSays}
 use Rattle.gdp_commands.specs.Table.{IsOne}
 use Rattle.gdp_commands.specs.Texts.{IsLongAnswer}
-use Rattle.gdp_commands.specs.Words.Form.{Solve, Check, Bench}
+use Rattle.gdp_commands.specs.Words.Form.{Solve, Check}
 
 -- the text is that of a claim by this route, which is true of the model and which the checker accepts
 pub record IsAnsweredAs (route : Route) (m : ModelTree) (written : List ℕ) : Type 0 where
@@ -58,10 +58,6 @@ abbrev pub SolvesOnce : Type 0
 SolvesOnce =
     (route : Route) (steps : ℕ) (model : List ℕ) (contents : Contents) (all : List ℕ) →
     contents model ≡ Some all → IsOne (Says (Solve route steps model) contents)
-
--- The seed and the size fix what `bench` answers.
-abbrev pub BenchesOnce : Type 0
-BenchesOnce = (route : Route) (steps seed size : ℕ) (contents : Contents) → IsOne (Says (Bench route steps seed size) contents)
 
 -- some text behind the name spells an answer for the model that is valid and true
 pub record IsTrueBehind (contents : Contents) (name : List ℕ) (m : ModelTree) : Type 0 where

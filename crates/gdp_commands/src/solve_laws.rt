@@ -1,6 +1,6 @@
-//! What `solve`, `bench` and `check` promise, each law the contract of a function with an empty body.
+//! What `solve` and `check` promise, each law the contract of a function with an empty body.
 
-ghost use Rattle.gdp_commands.specs.SolveLaws.{BenchesOnce, ChecksTruly, GivesUpExactly, SolvedIsAccepted, SolvesOnce, SolvesTruly};
+ghost use Rattle.gdp_commands.specs.SolveLaws.{ChecksTruly, GivesUpExactly, SolvedIsAccepted, SolvesOnce, SolvesTruly};
 
 /// What `solve` answers with status 0 is true of the model, and certified.
 pub fn solves_truly()
@@ -15,11 +15,6 @@ pub fn gives_up_exactly()
 /// The contents behind the name fix its status and its text.
 pub fn solves_once()
     ensures { SolvesOnce }
-{}
-
-/// The seed and the size fix what `bench` answers.
-pub fn benches_once()
-    ensures { BenchesOnce }
 {}
 
 /// Whatever `check` accepts is true.

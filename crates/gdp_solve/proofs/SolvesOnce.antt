@@ -4,7 +4,6 @@ use Rattle.lp_rows.specs.declared.columns.WideAt.{WideAt}
 use Rattle.lp_rows.specs.Points.{PointValue}
 use Rattle.model_tree.specs.Values.{ModelTree}
 use Rattle.proof_tree.specs.declared.proof.Node.{Node}
-use Rattle.answers.specs.declared.answer.Route.{Route}
 use Rattle.answers.specs.declared.answer.Route.TheVariants.{BigM, Hull, Hybrid, Logic}
 use Rattle.answers.specs.declared.claim.Claim.{Claim}
 use Rattle.answer_tests.specs.declared.errors.AnswerError.{AnswerError}
@@ -24,7 +23,6 @@ use Rattle.search_rules.specs.declared.waiting.Best.{Best}
 use Rattle.rewrite_solving.specs.declared.reached.Reached.{Reached}
 use Rattle.rewrite_solving.specs.declared.reached.Reached.TheVariants.{Claimed, GaveUp}
 use Rattle.rewrite_solving.specs.Cuts.{IsRayCutOf}
-use Rattle.rewrite_solving.specs.Reached.{AreSame}
 use Rattle.rewrite_solving.specs.Solutions as rewrite
 use Rattle.rewrite_solving.proofs.Comes.{Comes, IsOneMaking, IsPlaced, comes_once, placed_once}
 use Rattle.rewrite_solving.proofs.SolvedOnce.{ray_cut_once, solved_once}

@@ -1,6 +1,5 @@
 -- What is made of a point is one claim, or one test that does not pass.
 use Rattle.std.proofs.Common.{◌≡◌, ◌≢◌, ℤ, ◌*ℤ◌, Bool, true, false, List, [], ◌∷◌, Result, Ok, Err, refl, sym, ap, ◌∙◌, subst, if◌then◌else◌}
-use Rattle.fractions.specs.Fraction.{Fraction}
 use Rattle.fractions.proofs.Reduction.{reduced_same}
 use Rattle.lp_rows.specs.Points.{PointValue}
 use Rattle.proof_tree.specs.declared.proof.Node.{Node}

@@ -1,7 +1,6 @@
 -- What solving over a rewrite comes to is one thing: the cut is one, and so is what is made of it.
-use Rattle.std.proofs.Common.{◌≡◌, ℕ, ℤ, pos, Bool, false, List, length, Option, Result, Ok, Err, refl, sym, ap, ◌∙◌, subst, arith, inl, inr}
+use Rattle.std.proofs.Common.{◌≡◌, ℕ, ℤ, pos, Bool, false, List, Result, Ok, Err, refl, sym, ap, ◌∙◌, subst, arith, inl, inr}
 use Rattle.std.specs.Prelude.{IfOk}
-use Rattle.fractions.specs.Fraction.{Fraction}
 use Rattle.lp_rows.specs.declared.columns.WideAt.{WideAt}
 use Rattle.lp_rows.specs.Points.{PointValue}
 use Rattle.milps.specs.Milps.{MilpValue}
@@ -11,7 +10,7 @@ use Rattle.answers.specs.declared.claim.Claim.{Claim}
 use Rattle.answer_tests.specs.declared.errors.AnswerError.{AnswerError}
 use Rattle.answer_tests.specs.Groups.{first_error, claim_groups}
 use Rattle.certificate_checker.specs.Programs.{subject_of, least_for}
-use Rattle.certificate_checker.specs.Answers.{answer_groups, best_of, proof_groups}
+use Rattle.certificate_checker.specs.Answers.{best_of, proof_groups}
 use Rattle.certificate_checker.proofs.Accepted.{parts_pass}
 use Rattle.lowest_terms.specs.Made.{IsBestOf, IsEndlessOf}
 use Rattle.lowest_terms.specs.Terms.{IsLowestOf}

@@ -1,5 +1,5 @@
 use Rattle.gdp_commands.proofs.SolvesOnce.{benches_once}
-use Rattle.gdp_commands.proofs.solve_laws.benches_once.Goals as goal
+use Rattle.gdp_commands.proofs.make_laws.benches_once.Goals as goal
 
 pub returns : goal.returns
 returns c = benches_once
