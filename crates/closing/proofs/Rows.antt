@@ -72,3 +72,9 @@ pub ascends_later : (ts : List (ℕ × ℤ)) (least i : ℕ) → i < length ts �
 ascends_later ts least i l h =
     let k = rw (drop-cons ts i (0, pos 0)) at h in
     rw add-one (second (nat_le least (get_or ts i (0, pos 0)).0) (ascends_from (suc (get_or ts i (0, pos 0)).0) (drop (suc i) ts)) k)
+
+-- no term from here on stands at a column before this one's
+pub above : (ts : List (ℕ × ℤ)) (least i j : ℕ) → i < length ts → ascends_from least (drop i ts) ≡ true → j < (get_or ts i (0, pos 0)).0 → pos 0 ≡ coefficients (drop i ts) j
+above ts least i j l h p =
+    let before = coefficients_before (suc (get_or ts i (0, pos 0)).0) j (drop (i + 1) ts) (ascends_later ts least i l h) (omega (arith, p)) in
+    sym (sym (later ts i j l (λ e. omega (arith, e, p))) ∙ before)

@@ -1,10 +1,11 @@
 //! The sum of multipliers with a column's numbers, or with the bounds.
 
-ghost use Rattle.std.specs.Prelude.{◌≡◌, ◌<◌, true, length};
+ghost use Rattle.std.specs.Prelude.{◌≡◌, ◌<◌, true, false, length, ◌+ℤ◌, ◌*ℤ◌, MatchOption};
 ghost use Rattle.std.specs.List.{list_all};
 ghost use Rattle.int_linear.specs.Terms.{coefficients};
 ghost use Rattle.lp_rows.specs.Rows.{ascends_from};
 ghost use Rattle.lp_frame.specs.Force.{is_bounded};
+ghost use Rattle.fractions.specs.Width.{step_fits};
 ghost use Rattle.closing.specs.Rows.{entry, entries, sum_along};
 ghost use Rattle.closing.specs.Closing.{are_multipliers};
 
@@ -27,6 +28,9 @@ pub(crate) fn coefficient_at(terms: &[(u32, i128)], column: u32) -> i128
         if term.0 == column {
             return term.1;
         }
+        if column < term.0 {
+            return 0;
+        }
     }
     0
 }
@@ -40,6 +44,17 @@ fn entry_at(row: &AtMost, column: Option<u32>) -> i128
         Some(column) => coefficient_at(row.terms.as_slice(), column),
         None => row.bound,
     }
+}
+
+// The next partial sum of a sum of products, or None where the product or that sum is wide; most entries are 0.
+fn next_sum(sum: i128, multiplier: i128, entry: i128) -> Option<i128>
+    ensures { MatchOption result (step_fits sum multiplier entry ≡ false)
+        (λ next. (step_fits sum multiplier entry ≡ true) × (next ≡ sum +ℤ multiplier *ℤ entry)) }
+{
+    if entry == 0 {
+        return Some(sum);
+    }
+    add_product(sum, multiplier, entry)
 }
 
 /// The sum from `start` on of each multiplier with its row's number, or the row of the first wide number.
@@ -57,7 +72,7 @@ pub(crate) fn sum(
     let mut sum = start;
     for multiplier in multipliers {
         let entry = entry_at(&rows[multiplier.0 as usize], column);
-        let Some(next) = add_product(sum, multiplier.1, entry) else {
+        let Some(next) = next_sum(sum, multiplier.1, entry) else {
             return Err(multiplier.0);
         };
         sum = next;

@@ -100,7 +100,7 @@ fn split_rows(
     requires rows { list_all (is_row (length cols.now)) rows.now ≡ true }
     ensures { IfOk result (λ split. split ≡ map (split_row cols.now) rows.now) }
 {
-    let mut split = AtMostList::new(alloc);
+    let mut split = AtMostList::from_vec(Vec::with_capacity(alloc, rows.len())?);
     for row in rows {
         let terms = split_terms(alloc, cols, places, row.terms.as_slice())?;
         split.push(

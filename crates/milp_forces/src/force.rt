@@ -37,8 +37,10 @@ pub fn milp_force(alloc: Global, milp: &Milp, path: &Path, goal: bool) -> Result
     ensures { IfOk result (λ force. force ≡ force_at milp.now path.now goal) }
 {
     let given = milp.cols();
-    let mut rows = AtMostList::new(alloc);
-    push_rows(alloc, &mut rows, milp.rows())?;
+    let stated = milp.rows();
+    let room = stated.len().saturating_add(given.len());
+    let mut rows = AtMostList::from_vec(Vec::with_capacity(alloc, room)?);
+    push_rows(alloc, &mut rows, stated)?;
     push_bounds(alloc, &mut rows, given, path.halves())?;
     let goal = goal_terms(alloc, milp, goal)?;
     let cols = ColList::from_slice(alloc, given)?;

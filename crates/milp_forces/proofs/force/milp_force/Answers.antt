@@ -1,4 +1,4 @@
-use Rattle.std.proofs.Common.{◌≡◌, ◌<◌, ◌&&◌, true, length, sym, subst, ℕ, ℤ}
+use Rattle.std.proofs.Common.{◌≡◌, ◌<◌, ◌&&◌, true, length, sym, subst}
 use Rattle.std.specs.List.{list_all}
 use Rattle.fractions.specs.Width.{is_narrow}
 use Rattle.milp_forces.specs.Milps.{is_row_fit}
@@ -10,7 +10,7 @@ use Rattle.milp_forces.proofs.Within.{within_fit}
 use Rattle.milp_forces.proofs.force.milp_force.Goals as goal
 
 pub push_rows-requires : goal.push_rows-requires
-push_rows-requires c = subst (λ rows. list_all (λ r. is_row_fit r) rows ≡ true) (sym c.rows.ensures) (parts_of c.args.milp.now (within_fit c.args.milp.now c.cols-given.ensures.within)).narrow
+push_rows-requires c = subst (λ rows. list_all (λ r. is_row_fit r) rows ≡ true) (sym c.rows-stated.ensures) (parts_of c.args.milp.now (within_fit c.args.milp.now c.cols-given.ensures.within)).narrow
 
 pub push_bounds-requires : goal.push_bounds-requires
 push_bounds-requires c = subst (λ cols. length cols < 4294967296) (sym c.cols-given.ensures.cols) (few_columns c.args.milp.now (within_fit c.args.milp.now c.cols-given.ensures.within))
