@@ -1,6 +1,6 @@
 //! Words and numbers.
 
-ghost use Rattle.std.specs.Prelude.{◌≡◌, ◌∷◌, ◌++◌, OnOk, pos, ◌<ℤ◌, int_lt};
+ghost use Rattle.std.specs.Prelude.{◌≡◌, [], ◌∷◌, ◌++◌, OnOk, pos, ◌<ℤ◌, int_lt};
 ghost use Rattle.std.specs.Fmt.{decimal};
 ghost use Rattle.gdp_grammar.specs.Canonical.{size_word, number_word};
 ghost use Rattle.text_grammar.specs.Printing.{minus_word, sign_word};
@@ -75,14 +75,14 @@ pub fn put_number(alloc: Global, text: &mut Text, number: &Frac) -> Result<(), M
     put_size(alloc, text, number)
 }
 
-// A blank and the sign before a further term.
+// The sign before a further term, between blanks.
 fn put_sign(alloc: Global, text: &mut Text, number: i128) -> Result<(), Memory>
-    ensures { OnOk result (text.new ≡ text.old ++ 32 ∷ sign_word number) }
+    ensures { OnOk result (text.new ≡ text.old ++ 32 ∷ sign_word number ++ 32 ∷ []) }
 {
     if is_negative(number) {
-        return put_word(alloc, text, b"-");
+        return text.append(alloc, b" - ");
     }
-    put_word(alloc, text, b"+")
+    text.append(alloc, b" + ")
 }
 
 /// The sign of a number and its magnitude, each after a blank.
@@ -90,6 +90,5 @@ pub fn put_signed(alloc: Global, text: &mut Text, number: &Frac) -> Result<(), M
     ensures { OnOk result (text.new ≡ text.old ++ 32 ∷ sign_word number.now.num ++ 32 ∷ size_word number.now) }
 {
     put_sign(alloc, text, number.num())?;
-    text.push(alloc, b' ')?;
     put_size(alloc, text, number)
 }
