@@ -6,7 +6,7 @@ use crate::logic::ask_prop;
 use block_tree::{Model, ModelBuilder, is_name};
 use fractions::Frac;
 use propositions::Prop;
-use script::{Trouble, first_word, frac, id, shown, split};
+use script::{Player, Trouble, first_word, frac, id, shown, split};
 use std::alloc::Global;
 
 /// A builder and a model, and the terms and propositions for its next call.
@@ -37,16 +37,15 @@ impl Bench {
     }
 }
 
-/// Plays a line, and says what it answers. A line that begins with `#` heads those below it.
-pub fn play(alloc: Global, bench: &mut Bench, line: &str) -> Result<String, Trouble> {
-    if line.starts_with('#') {
-        return shown(alloc, &line);
+impl Player for Bench {
+    fn play(&mut self, rt: &HostRuntime, line: &str) -> Result<String, Trouble> {
+        let alloc = rt.alloc();
+        let (call, text) = first_word(line);
+        if call == "name" {
+            return shown(alloc, &is_name(text));
+        }
+        play_words(alloc, self, split(alloc, line)?.as_slice())
     }
-    let (call, text) = first_word(line);
-    if call == "name" {
-        return shown(alloc, &is_name(text));
-    }
-    play_words(alloc, bench, split(alloc, line)?.as_slice())
 }
 
 fn play_words(alloc: Global, bench: &mut Bench, words: &[&str]) -> Result<String, Trouble> {

@@ -12,37 +12,11 @@ mod building;
 mod logic;
 mod words;
 
-use bench::{Bench, play};
-use script::Trouble;
-use std::io;
-use std::io::{Print, Read};
+use bench::Bench;
+use script::play_script;
 use std::process::ExitCode;
 
-fn play_line(
-    rt: &(impl Print + AllocGlobal),
-    bench: &mut Bench,
-    line: &str,
-) -> Result<(), Trouble> {
-    let answer = play(rt.alloc(), bench, line)?;
-    println!(rt; "{answer}")?;
-    Ok(())
-}
-
-fn play_all(rt: &(impl Print + AllocGlobal), text: &str) -> Result<(), Trouble> {
-    let mut bench = Bench::new(rt.alloc());
-    for line in text.lines() {
-        play_line(rt, &mut bench, line)?;
-    }
-    Ok(())
-}
-
 fn main(rt: HostRuntime) -> ExitCode {
-    let mut text = String::new(rt.alloc());
-    if rt.stdin().read_to_string(&mut text).is_err() {
-        return ExitCode::FAILURE;
-    }
-    match play_all(&rt, text.as_str()) {
-        Ok(()) => ExitCode::SUCCESS,
-        Err(_) => ExitCode::FAILURE,
-    }
+    let mut bench = Bench::new(rt.alloc());
+    play_script(&rt, &mut bench)
 }

@@ -5,7 +5,7 @@ use crate::rows::ask_rows;
 use crate::tableaus::{Table, ask_table};
 use lp_frame::{AtMost, AtMostList, Force};
 use lp_rows::{Col, ColList, Kind, Sign, Terms};
-use script::{Trouble, id, number, shown, split, terms};
+use script::{Player, Trouble, id, number, split, terms};
 use std::alloc::Global;
 
 /// What holds at a node, and the tableau that was made last.
@@ -35,13 +35,14 @@ fn no_force(alloc: Global) -> Force {
     }
 }
 
-/// Plays a line, and says what it answers. A line that begins with `#` heads those below it.
-pub fn play(alloc: Global, bench: &mut Bench, line: &str) -> Result<String, Trouble> {
-    if line.starts_with('#') {
-        return shown(alloc, &line);
+impl Player for Bench {
+    fn play(&mut self, rt: &HostRuntime, line: &str) -> Result<String, Trouble> {
+        play_words(rt.alloc(), self, split(rt.alloc(), line)?.as_slice())
     }
-    let words = split(alloc, line)?;
-    match words.as_slice() {
+}
+
+fn play_words(alloc: Global, bench: &mut Bench, words: &[&str]) -> Result<String, Trouble> {
+    match words {
         [] => Ok(String::new(alloc)),
         ["force", word] => {
             bench.force = no_force(alloc);

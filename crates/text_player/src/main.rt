@@ -13,18 +13,28 @@ mod words;
 
 use files::ask_host;
 use model_tree::Model;
-use script::{Trouble, first_word, id, shown, split};
+use script::{Player, Trouble, first_word, id, play_script, split};
 use shelves::ask_shelf;
 use std::alloc::Global;
-use std::io;
-use std::io::Read;
 use std::process::ExitCode;
 
-/// Plays a line, and says what it answers. A line that begins with `#` heads those below it.
-fn play(alloc: Global, kept: &mut Option<Model>, line: &str) -> Result<String, Trouble> {
-    if line.starts_with('#') {
-        return shown(alloc, &line);
+/// The model that was read last.
+#[derive(Drop)]
+struct Texts {
+    model: Option<Model>,
+}
+
+impl Player for Texts {
+    fn play(&mut self, rt: &HostRuntime, line: &str) -> Result<String, Trouble> {
+        match ask_host(rt, line)? {
+            Some(answer) => Ok(answer),
+            None => ask(rt.alloc(), &mut self.model, line),
+        }
     }
+}
+
+// What a line answers that asks nothing of the host.
+fn ask(alloc: Global, kept: &mut Option<Model>, line: &str) -> Result<String, Trouble> {
     let (call, text) = first_word(line);
     match call {
         "model" => readings::model(alloc, kept, text),
@@ -39,30 +49,7 @@ fn play(alloc: Global, kept: &mut Option<Model>, line: &str) -> Result<String, T
     }
 }
 
-fn play_line(rt: &HostRuntime, kept: &mut Option<Model>, line: &str) -> Result<(), Trouble> {
-    let answer = match ask_host(rt, line)? {
-        Some(answer) => answer,
-        None => play(rt.alloc(), kept, line)?,
-    };
-    println!(rt; "{answer}")?;
-    Ok(())
-}
-
-fn play_all(rt: &HostRuntime, text: &str) -> Result<(), Trouble> {
-    let mut kept = None;
-    for line in text.lines() {
-        play_line(rt, &mut kept, line)?;
-    }
-    Ok(())
-}
-
 fn main(rt: HostRuntime) -> ExitCode {
-    let mut text = String::new(rt.alloc());
-    if rt.stdin().read_to_string(&mut text).is_err() {
-        return ExitCode::FAILURE;
-    }
-    match play_all(&rt, text.as_str()) {
-        Ok(()) => ExitCode::SUCCESS,
-        Err(_) => ExitCode::FAILURE,
-    }
+    let mut texts = Texts { model: None };
+    play_script(&rt, &mut texts)
 }
