@@ -1,5 +1,5 @@
 -- Texts of lines, part by part.
-use Rattle.std.proofs.Common.{◌≡◌, ℕ, suc, List, [], ◌∷◌, ◌++◌, ap, sym, ◌∙◌, append_assoc, codes, length, ◌≤◌, ◌<◌, ℤ, drop, slice_index_or, drop-cons, Result, Ok, Err, OnOk, OnErr, arith}
+use Rattle.std.proofs.Common.{◌≡◌, ℕ, suc, List, [], ◌∷◌, ◌++◌, ap, sym, ◌∙◌, append_assoc, codes, length, ◌≤◌, ◌<◌, ℤ, drop, slice_index_or, drop-cons, Option, Result, Ok, Err, OnOk, OnErr, arith}
 use Rattle.int_linear.specs.Terms.{coefficients}
 use Rattle.lp_rows.specs.declared.columns.Col.{Col}
 use Rattle.lp_rows.specs.declared.columns.Sign.{Sign}
@@ -7,7 +7,10 @@ use Rattle.lp_rows.specs.declared.columns.Sign.TheVariants.{Free}
 use Rattle.lp_rows.specs.declared.kinds.Kind.{Kind}
 use Rattle.lp_rows.specs.declared.kinds.Kind.TheVariants.{Int}
 use Rattle.lp_rows.specs.Rows.{RowValue, ascends_from, are_storable}
+use Rattle.gdp_io.specs.Sink.{grown}
 use Rattle.text_grammar.specs.Printing.{text_of}
+use Rattle.text_printer.specs.Outputs.{IsCutShort}
+use Rattle.text_printer.proofs.Cuts.{cut_at, cut_before, cut_between}
 use Rattle.text_grammar.proofs.PrintingLemmas.{text_appended}
 use Rattle.lp_grammar.specs.Canonical.{row_name, label_line, term_line, goal_lines, term_lines, some_terms, right_line, row_before, row_lines, free_line, free_lines, if_free, integer_line, integer_lines, if_integer, section_lines, is_some_line, objective_lines, canonical_lines}
 use Rattle.lp_grammar.specs.Programs.{most_cols, IsMilp}
@@ -102,6 +105,17 @@ integers_left i cs d lt whole =
 pub some_section : (word : List ℕ) (lines : List (List ℕ)) → is_some_line lines ≡ true → text_of (section_lines word lines) ≡ (word ++ 10 ∷ []) ++ text_of lines
 some_section word [] some = absurd (cc some)
 some_section word (line ∷ lines) some = line_first word (line ∷ lines)
+
+-- a section of which the first line was cut short
+pub section_cut : (old new : Option (List ℕ)) (word : List ℕ) (lines : List (List ℕ)) → is_some_line lines ≡ true → IsCutShort old new (word ++ 10 ∷ []) → IsCutShort old new (text_of (section_lines word lines))
+section_cut old new word lines some cut = cut_at old new (text_of (section_lines word lines)) (word ++ 10 ∷ []) (text_of lines) (some_section word lines some) cut
+
+-- a line that was cut short in its first part, or in its second
+pub line_cut : (old new : Option (List ℕ)) (part rest : List ℕ) → IsCutShort old new part → IsCutShort old new ((part ++ rest) ++ 10 ∷ [])
+line_cut old new part rest cut = cut_before old new (part ++ rest) (10 ∷ []) (cut_before old new part rest cut)
+
+pub line_cut_behind : (old mid new : Option (List ℕ)) (part next : List ℕ) → mid ≡ grown old part → IsCutShort mid new next → IsCutShort old new ((part ++ (next ++ [])) ++ 10 ∷ [])
+line_cut_behind old mid new part next whole cut = cut_before old new (part ++ (next ++ [])) (10 ∷ []) (cut_between old mid new part next [] whole cut)
 
 pub on_err : {A E : Type 0} {P Q : Type 0} (r : Result A E) → (P → Q) → OnErr r P → OnErr r Q
 on_err (Ok x) f p = tt
