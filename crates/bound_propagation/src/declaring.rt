@@ -35,9 +35,7 @@ fn whole_low(kind: Kind, end: Option<Frac>) -> Option<i128>
     ensures value { result ≡ low_whole kind end }
     ensures small { is_end_storable result ≡ true }
 {
-    let Some(f) = end else {
-        return None;
-    };
+    let f = end?;
     Some(opposite(upper(kind, opposite(f.num()), f.den())))
 }
 
@@ -47,9 +45,7 @@ fn whole_high(kind: Kind, end: Option<Frac>) -> Option<i128>
     ensures value { result ≡ high_whole kind end }
     ensures small { is_end_storable result ≡ true }
 {
-    let Some(f) = end else {
-        return None;
-    };
+    let f = end?;
     Some(upper(kind, f.num(), f.den()))
 }
 

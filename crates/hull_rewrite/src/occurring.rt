@@ -55,10 +55,7 @@ pub(crate) fn low_of(var: u32, bounds: &Bounds) -> i128
     ensures value { result ≡ or_zero ((box_of bounds.now).low var) }
     ensures small { unsigned_abs result ≤ 10 ^ 15 }
 {
-    match bounds.low(var) {
-        Some(low) => low,
-        None => 0,
-    }
+    bounds.low(var).unwrap_or(0)
 }
 
 // The high of a variable, or 0.
@@ -66,8 +63,5 @@ pub(crate) fn high_of(var: u32, bounds: &Bounds) -> i128
     ensures value { result ≡ or_zero ((box_of bounds.now).high var) }
     ensures small { unsigned_abs result ≤ 10 ^ 15 }
 {
-    match bounds.high(var) {
-        Some(high) => high,
-        None => 0,
-    }
+    bounds.high(var).unwrap_or(0)
 }
