@@ -14,8 +14,9 @@ use Rattle.block_tree.specs.Variables.{VarValue}
 use Rattle.block_tree.specs.View.{rows_in}
 use Rattle.bound_propagation.specs.Boxes.{Box}
 use Rattle.bound_propagation.specs.Kept.{is_end_storable}
-use Rattle.bound_propagation.specs.Propagated.{Limit, are_crossed, box_after, whole_box, floor, greater, high_by, high_from, if_storable, kept_or, lesser, limits, low_by, low_from, round, rounding_at, rounds, upper, var_at, whole_high, whole_low}
+use Rattle.bound_propagation.specs.Propagated.{are_crossed, box_after, whole_box, floor, high_from, limits, low_from, round, rounding_at, rounds, upper, var_at, whole_high, whole_low}
 use Rattle.bound_propagation.proofs.Floors.{floor_size}
+use Rattle.bound_propagation.proofs.Settled.{low_from_small, high_from_small, kept_small}
 
 -- the ends of the box may be stored
 pub record AreEndsStored (box : Box) : Type 0 where
@@ -23,58 +24,10 @@ pub record AreEndsStored (box : Box) : Type 0 where
   pub high : (j : ℕ) → is_end_storable (box.high j) ≡ true
 
 -- ---- what a round makes
-stored_by : (b : Bool) (z : ℤ) → is_storable z ≡ b → is_end_storable (if b then Some z else None) ≡ true
-stored_by true z e = e
-stored_by false z e = refl
-
-stored : (z : ℤ) → is_end_storable (if_storable z) ≡ true
-stored z = stored_by (is_storable z) z refl
-
-low_stored : (k : Kind) (a : ℤ) (o : Option ℤ) → is_end_storable (low_by k a o) ≡ true
-low_stored k a None = refl
-low_stored k (pos n) (Some c) = refl
-low_stored k (negsuc n) (Some c) = stored (neg_ℤ (upper k c (suc n)))
-
-high_stored : (k : Kind) (a : ℤ) (o : Option ℤ) → is_end_storable (high_by k a o) ≡ true
-high_stored k a None = refl
-high_stored k (pos zero) (Some c) = refl
-high_stored k (pos (suc n)) (Some c) = stored (upper k c (suc n))
-high_stored k (negsuc n) (Some c) = refl
-
-either : (b : Bool) (x y : Option ℤ) → is_end_storable x ≡ true → is_end_storable y ≡ true → is_end_storable (if b then x else y) ≡ true
-either true x y p q = p
-either false x y p q = q
-
-greater_stored : (x y : Option ℤ) → is_end_storable x ≡ true → is_end_storable y ≡ true → is_end_storable (greater x y) ≡ true
-greater_stored None y p q = q
-greater_stored (Some a) None p q = p
-greater_stored (Some a) (Some b) p q = either _ (Some b) (Some a) q p
-
-lesser_stored : (x y : Option ℤ) → is_end_storable x ≡ true → is_end_storable y ≡ true → is_end_storable (lesser x y) ≡ true
-lesser_stored None y p q = q
-lesser_stored (Some a) None p q = p
-lesser_stored (Some a) (Some b) p q = either _ (Some b) (Some a) q p
-
-low_from_stored : (k : Kind) (j : ℕ) (ls : List Limit) (o : Option ℤ) → is_end_storable o ≡ true → is_end_storable (low_from k j ls o) ≡ true
-low_from_stored k j [] o h = h
-low_from_stored k j (l ∷ ls) o h =
-    low_from_stored k j ls (if nat_eq j l.of then greater o (low_by k l.times l.most) else o)
-    (either (nat_eq j l.of) (greater o (low_by k l.times l.most)) o (greater_stored o (low_by k l.times l.most) h (low_stored k l.times l.most)) h)
-
-high_from_stored : (k : Kind) (j : ℕ) (ls : List Limit) (o : Option ℤ) → is_end_storable o ≡ true → is_end_storable (high_from k j ls o) ≡ true
-high_from_stored k j [] o h = h
-high_from_stored k j (l ∷ ls) o h =
-    high_from_stored k j ls (if nat_eq j l.of then lesser o (high_by k l.times l.most) else o)
-    (either (nat_eq j l.of) (lesser o (high_by k l.times l.most)) o (lesser_stored o (high_by k l.times l.most) h (high_stored k l.times l.most)) h)
-
-kept_stored : (b : Bool) (x y : Option ℤ) → is_end_storable x ≡ true → is_end_storable y ≡ true → is_end_storable (kept_or b x y) ≡ true
-kept_stored true x y p q = p
-kept_stored false x y p q = q
-
 round_stored : (kinds : ℕ → Kind) (rows : List (RowValue × ℕ)) (box : Box) → AreEndsStored box → AreEndsStored (round kinds rows box)
 round_stored kinds rows box s = record {
-  low = λ j. kept_stored (are_crossed (low_from (kinds j) j (limits rows box) (box.low j)) (high_from (kinds j) j (limits rows box) (box.high j))) (box.low j) (low_from (kinds j) j (limits rows box) (box.low j)) (s.low j) (low_from_stored (kinds j) j (limits rows box) (box.low j) (s.low j));
-  high = λ j. kept_stored (are_crossed (low_from (kinds j) j (limits rows box) (box.low j)) (high_from (kinds j) j (limits rows box) (box.high j))) (box.high j) (high_from (kinds j) j (limits rows box) (box.high j)) (s.high j) (high_from_stored (kinds j) j (limits rows box) (box.high j) (s.high j));
+  low = λ j. kept_small (are_crossed (low_from (kinds j) j (limits rows box) (box.low j)) (high_from (kinds j) j (limits rows box) (box.high j))) (box.low j) (low_from (kinds j) j (limits rows box) (box.low j)) (s.low j) (low_from_small (kinds j) j (limits rows box) (box.low j) (s.low j));
+  high = λ j. kept_small (are_crossed (low_from (kinds j) j (limits rows box) (box.low j)) (high_from (kinds j) j (limits rows box) (box.high j))) (box.high j) (high_from (kinds j) j (limits rows box) (box.high j)) (s.high j) (high_from_small (kinds j) j (limits rows box) (box.high j) (s.high j));
 }
 
 rounds_stored : (n : ℕ) (kinds : ℕ → Kind) (rows : List (RowValue × ℕ)) (box : Box) → AreEndsStored box → AreEndsStored (rounds n kinds rows box)
