@@ -1,13 +1,11 @@
 -- From a point of the model a ray whose tests pass leads to points.
 use Rattle.std.proofs.Common.{◌≡◌, ℕ, zero, suc, ◌+◌, ◌*◌, ◌/◌, ◌%◌, ℤ, pos, negsuc, neg_ℤ, ◌+ℤ◌, ◌*ℤ◌, ◌≤ℤ◌, ◌<ℤ◌, Bool, true, false, ◌&&◌, List, [], ◌∷◌, ◌++◌, map, All, Option, None, Some, int_le, Result, Ok, Err, refl, ap, sym, ◌∙◌, subst, arith, if◌then◌else◌}
-use Rattle.std.proofs.Math.Nat.{mul-mod_left}
-use Rattle.std.proofs.lemmas.Bool.Decides.{nat_tests}
 use Rattle.std.proofs.lemmas.Int.{ints}
 use Rattle.std.proofs.lemmas.List.Elements.{All-head, All-tail}
 use Rattle.fractions.specs.Fraction.{Fraction}
 use Rattle.int_linear.specs.Terms.{dot}
 use Rattle.int_linear.proofs.Dots.{dot_add, dot_scale}
-use Rattle.int_linear.proofs.Ring.{products, add_mul, neg_mul, mul_add, mul_nonneg}
+use Rattle.int_linear.proofs.Ring.{products, add_mul, mul_add, mul_nonneg}
 use Rattle.int_linear.proofs.Signs.{mul_nonpos}
 use Rattle.lp_rows.specs.declared.kinds.Kind.{Kind}
 use Rattle.lp_rows.specs.declared.kinds.Kind.TheVariants.{Real, Int}
@@ -15,6 +13,7 @@ use Rattle.lp_rows.specs.declared.kinds.Rel.{Rel}
 use Rattle.lp_rows.specs.declared.kinds.Rel.TheVariants.{AtMost, AtLeast, Equal}
 use Rattle.lp_rows.specs.Holding.{stands, holds_at, sum_fits}
 use Rattle.lp_rows.specs.Rows.{RowValue}
+use Rattle.lp_rows.proofs.Wholes.{whole_by, whole_back}
 use Rattle.point_tests.specs.declared.verdicts.Verdict.{Verdict}
 use Rattle.point_tests.specs.declared.verdicts.Verdict.TheVariants.{Holds, FailsAt}
 use Rattle.point_tests.specs.declared.verdicts.SumWide.{SumWide}
@@ -50,28 +49,6 @@ le_of a b h = grind (arith, ints)
 
 pub le_is : (a b : ℤ) → a ≤ℤ b → int_le a b ≡ true
 le_is a b h = grind (arith, ints)
-
--- a number over a positive denominator is whole exactly where it is a multiple
-pub whole_by : (x d : ℤ) → pos 0 <ℤ d → is_whole x d ≡ true → (q : ℤ) × (x ≡ q *ℤ d)
-whole_by (pos a) (pos (suc d)) p h =
-    let e : a % suc d ≡ 0 = grind (arith, nat_tests) in
-    let f : suc d * (a / suc d) + a % suc d ≡ a = omega arith in
-    let g : a ≡ (a / suc d) * suc d = omega arith in
-    (pos (a / suc d), ap pos g)
-whole_by (negsuc a) (pos (suc d)) p h =
-    let e : suc a % suc d ≡ 0 = grind (arith, nat_tests) in
-    let f : suc d * (suc a / suc d) + suc a % suc d ≡ suc a = omega arith in
-    let g : suc a ≡ (suc a / suc d) * suc d = omega arith in
-    let k : neg_ℤ (pos (suc a)) ≡ neg_ℤ (pos (suc a / suc d) *ℤ pos (suc d)) = ap (λ n. neg_ℤ (pos n)) g in
-    (neg_ℤ (pos (suc a / suc d)), k ∙ sym (neg_mul (pos (suc a / suc d)) (pos (suc d))))
-whole_by x (pos zero) p h = absurd (omega (arith, ints))
-whole_by x (negsuc d) p h = absurd (omega (arith, ints))
-
-pub whole_back : (q d : ℤ) → pos 0 <ℤ d → is_whole (q *ℤ d) d ≡ true
-whole_back (pos q) (pos (suc d)) p = let e = mul-mod_left q (suc d) in grind (arith, nat_tests)
-whole_back (negsuc q) (pos (suc d)) p = let e = mul-mod_left (suc q) (suc d) in grind (arith, nat_tests)
-whole_back q (pos zero) p = absurd (omega (arith, ints))
-whole_back q (negsuc d) p = absurd (omega (arith, ints))
 
 whole_along : (x over r : ℤ) (k : ℕ) → pos 0 <ℤ over → is_whole x over ≡ true → is_whole (x +ℤ pos k *ℤ over *ℤ r) over ≡ true
 whole_along x over r k l h =

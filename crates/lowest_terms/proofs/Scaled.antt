@@ -19,7 +19,8 @@ use Rattle.model_tree.specs.Tree.{BlockTree, block, Disjunctions, no_disjunction
 use Rattle.model_tree.specs.Values.{GoalValue, ModelTree}
 use Rattle.model_tree.specs.Variables.{VarValue}
 use Rattle.model_claims.specs.Claims.{IsPoint, HasValue, worth}
-use Rattle.answer_tests.proofs.Alongs.{le_of, le_is, whole_by, whole_back}
+use Rattle.lp_rows.proofs.Wholes.{whole_by, whole_back}
+use Rattle.answer_tests.proofs.Alongs.{le_of, le_is}
 use Rattle.lowest_terms.specs.Terms.{IsLowestOf}
 use Rattle.lowest_terms.specs.Laws.{LowestKeeps}
 

@@ -1,5 +1,5 @@
 -- Whole numbers over a denominator are its multiples.
-use Rattle.std.proofs.Common.{◌≡◌, ℤ, pos, negsuc, neg_ℤ, ◌*ℤ◌, ◌<ℤ◌, true, arith, ap, sym, ◌∙◌, suc, zero, ◌+◌, ◌*◌, ◌/◌, ◌%◌}
+use Rattle.std.proofs.Common.{◌≡◌, ℕ, ℤ, pos, negsuc, neg_ℤ, ◌*ℤ◌, ◌<ℤ◌, true, arith, ap, sym, ◌∙◌, suc, zero, ◌+◌, ◌*◌, ◌/◌, ◌%◌}
 use Rattle.std.proofs.Math.Nat.{mul-mod_left}
 use Rattle.std.proofs.lemmas.Bool.Decides.{nat_tests}
 use Rattle.std.proofs.lemmas.Int.{ints}

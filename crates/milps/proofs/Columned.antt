@@ -1,7 +1,6 @@
 -- Truth values, relations and whole numbers over a denominator, as what they say.
-use Rattle.std.proofs.Common.{nat_eq, ◌≡◌, ℕ, ℤ, pos, negsuc, neg_ℤ, ◌*ℤ◌, ◌≤ℤ◌, ◌<ℤ◌, Bool, true, false, ◌&&◌, ◌||◌, int_le, arith, refl, ap, sym, ◌∙◌, suc, zero, ◌+◌, ◌*◌, ◌/◌, ◌%◌}
+use Rattle.std.proofs.Common.{nat_eq, ◌≡◌, ℕ, ℤ, pos, ◌*ℤ◌, ◌≤ℤ◌, ◌<ℤ◌, Bool, true, false, ◌&&◌, ◌||◌, int_le, arith, refl, ap, sym, ◌∙◌, suc, zero, ◌+◌, ◌*◌, ◌/◌, ◌%◌}
 use Rattle.std.specs.Prelude.{◌↔◌}
-use Rattle.std.proofs.Math.Nat.{mul-mod_left}
 use Rattle.std.proofs.lemmas.Bool.Decides.{nat_tests}
 use Rattle.std.proofs.lemmas.Int.{ints}
 use Rattle.lp_rows.specs.declared.columns.Col.{Col}
@@ -12,7 +11,7 @@ use Rattle.lp_rows.specs.declared.kinds.Kind.TheVariants.{Int, Real}
 use Rattle.lp_rows.specs.declared.kinds.Rel.{Rel}
 use Rattle.lp_rows.specs.declared.kinds.Rel.TheVariants.{AtLeast, AtMost, Equal}
 use Rattle.lp_rows.specs.Kinds.{is_of_kind, is_whole}
-use Rattle.int_linear.proofs.Ring.{neg_mul}
+use Rattle.lp_rows.proofs.Wholes.{whole_by, whole_back}
 use Rattle.lp_rows.specs.Holding.{stands}
 use Rattle.milps.specs.Milps.{col_takes, has_sign}
 
@@ -55,30 +54,6 @@ stands_says Equal l r = (λ h. and_true (int_le l r) (int_le r l) (grind (arith,
 abbrev pub IsWhole : Kind → ℤ → ℤ → Type 0
 IsWhole Int d x = (q : ℤ) × (x ≡ q *ℤ d)
 IsWhole Real d x = Unit {0}
-
-whole_by : (x d : ℤ) → pos 0 <ℤ d → is_whole x d ≡ true → (q : ℤ) × (x ≡ q *ℤ d)
-whole_by (pos a) (pos (suc d)) p h =
-    let e : a % suc d ≡ 0 = grind (arith, nat_tests) in
-    let f : suc d * (a / suc d) + a % suc d ≡ a = omega arith in
-    let g : a ≡ (a / suc d) * suc d = omega arith in
-    (pos (a / suc d), ap pos g)
-whole_by (negsuc a) (pos (suc d)) p h =
-    let e : suc a % suc d ≡ 0 = grind (arith, nat_tests) in
-    let f : suc d * (suc a / suc d) + suc a % suc d ≡ suc a = omega arith in
-    let g : suc a ≡ (suc a / suc d) * suc d = omega arith in
-    let k : neg_ℤ (pos (suc a)) ≡ neg_ℤ (pos (suc a / suc d) *ℤ pos (suc d)) = ap (λ n. neg_ℤ (pos n)) g in
-    (neg_ℤ (pos (suc a / suc d)), k ∙ sym (neg_mul (pos (suc a / suc d)) (pos (suc d))))
-whole_by x (pos zero) p h = absurd (omega (arith, ints))
-whole_by x (negsuc d) p h = absurd (omega (arith, ints))
-
-multiple_zero : (k n : ℕ) → (k * suc n) % suc n ≡ 0
-multiple_zero k n = mul-mod_left k (suc n)
-
-whole_back : (q d : ℤ) → pos 0 <ℤ d → is_whole (q *ℤ d) d ≡ true
-whole_back (pos q) (pos (suc d)) p = let e = multiple_zero q d in grind (arith, nat_tests)
-whole_back (negsuc q) (pos (suc d)) p = let e = multiple_zero (suc q) d in grind (arith, nat_tests)
-whole_back q (pos zero) p = absurd (omega (arith, ints))
-whole_back q (negsuc d) p = absurd (omega (arith, ints))
 
 pub kind_says : (kind : Kind) (x d : ℤ) → pos 0 <ℤ d → (is_of_kind kind x d ≡ true) ↔ IsWhole kind d x
 kind_says Real x d p = (λ h. tt, λ h. refl)

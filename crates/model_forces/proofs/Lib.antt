@@ -1,7 +1,6 @@
 pub mod Holding
 pub mod InForce
 pub mod OnPath
-pub mod Whole
 pub mod Points
 pub mod Sizes
 pub mod Example

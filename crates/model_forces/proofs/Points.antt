@@ -30,7 +30,7 @@ use Rattle.model_forces.specs.Laws.{are_of_kind, IsPointOn, AreKnown, IsDecided,
 use Rattle.model_forces.proofs.Holding.{all_left, all_right, le_of, vars_into, vars_signs, vars_back}
 use Rattle.model_forces.proofs.InForce.{Holds, own_rows, on_into, on_back}
 use Rattle.model_forces.proofs.OnPath.{path_rows_into, path_back, at_completes, at_below, at_past, scale_le}
-use Rattle.model_forces.proofs.Whole.{whole_by}
+use Rattle.lp_rows.proofs.Wholes.{whole_by}
 
 pub force_holds_points : ForceHoldsPoints
 force_holds_points m path goal p s a h =

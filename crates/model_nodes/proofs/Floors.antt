@@ -11,7 +11,7 @@ use Rattle.int_linear.proofs.Ring.{le_mul, neg_mul, add_mul, one_mul, products}
 use Rattle.fractions.specs.Width.{is_narrow}
 use Rattle.lp_rows.specs.Kinds.{is_whole}
 use Rattle.model_tree.proofs.Bools.{first_holds, second_holds}
-use Rattle.model_forces.proofs.Whole.{whole_back}
+use Rattle.lp_rows.proofs.Wholes.{whole_back}
 
 test_lt : (a b : ℕ) → nat_lt a b ≡ true → a < b
 test_lt a b h = grind (arith, nat_tests)

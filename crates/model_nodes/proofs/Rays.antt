@@ -20,7 +20,7 @@ use Rattle.model_claims.specs.Claims.{along}
 use Rattle.model_nodes.specs.Rays.{RayKeepsPoints}
 use Rattle.model_forces.proofs.Points.{kinds_of, known_at, force_holds_points, force_point_is_point}
 use Rattle.propositions.proofs.KnownLemmas.{prop_known}
-use Rattle.model_forces.proofs.Whole.{whole_by, whole_back}
+use Rattle.lp_rows.proofs.Wholes.{whole_by, whole_back}
 
 moved_multiple : (x over step r q : ℤ) → x ≡ q *ℤ over → x +ℤ step *ℤ over *ℤ r ≡ (q +ℤ step *ℤ r) *ℤ over
 moved_multiple x over step r q e = ap (λ y. y +ℤ step *ℤ over *ℤ r) e ∙ (let f : q *ℤ over +ℤ step *ℤ over *ℤ r ≡ (q +ℤ step *ℤ r) *ℤ over = simp products refl in f)
