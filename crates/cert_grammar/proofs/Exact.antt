@@ -88,17 +88,17 @@ value_grows : (v : ℕ) (xs : List ℕ) → v ≤ value_after v xs
 value_grows v [] = omega arith
 value_grows v (x ∷ xs) = omega (arith, value_grows (v * 10 + (x - 48)) xs)
 
-value_parts : (v : ℕ) (n : ℕ) (xs : List ℕ) → value_after v xs ≡ value_after (value_after v (take n xs)) (drop n xs)
+pub value_parts : (v : ℕ) (n : ℕ) (xs : List ℕ) → value_after v xs ≡ value_after (value_after v (take n xs)) (drop n xs)
 value_parts v zero xs = refl
 value_parts v (suc n) [] = refl
 value_parts v (suc n) (x ∷ xs) = value_parts (v * 10 + (x - 48)) n xs
 
-all_behind : (n : ℕ) (xs : List ℕ) → list_all is_digit xs ≡ true → list_all is_digit (drop n xs) ≡ true
+pub all_behind : (n : ℕ) (xs : List ℕ) → list_all is_digit xs ≡ true → list_all is_digit (drop n xs) ≡ true
 all_behind zero xs p = p
 all_behind (suc n) [] p = refl
 all_behind (suc n) (x ∷ xs) p = all_behind n xs (both (is_digit x) (list_all is_digit xs) p).1
 
-long_behind : (n : ℕ) (xs : List ℕ) → n ≤ length xs → length (drop n xs) ≡ length xs - n
+pub long_behind : (n : ℕ) (xs : List ℕ) → n ≤ length xs → length (drop n xs) ≡ length xs - n
 long_behind zero xs le = omega arith
 long_behind (suc n) [] le = absurd (omega (arith, le))
 long_behind (suc n) (x ∷ xs) le = omega (arith, long_behind n xs (omega (arith, le)))

@@ -124,30 +124,30 @@ made_of None f y e = absurd (cc e)
 made_of (Some x) f y e = (x, refl, e)
 
 -- no other word is read as the pair
-split_colon : (word : List ℕ) → front (λ b. not (b == 58)) word ++ rest (λ b. not (b == 58)) word ≡ word
-split_colon [] = refl
-split_colon (b ∷ bs) = elim (told (not (b == 58))) [
+pub split_before : (stop : ℕ) (word : List ℕ) → front (λ b. not (b == stop)) word ++ rest (λ b. not (b == stop)) word ≡ word
+split_before stop [] = refl
+split_before stop (b ∷ bs) = elim (told (not (b == stop))) [
   | inl t ↦
-      ap (λ (l : List ℕ). l ++ rest (λ b. not (b == 58)) (b ∷ bs)) (cond-true (not (b == 58)) (b ∷ front (λ b. not (b == 58)) bs) [] t)
-      ∙ ap (λ (l : List ℕ). b ∷ (front (λ b. not (b == 58)) bs ++ l)) (cond-true (not (b == 58)) (rest (λ b. not (b == 58)) bs) (b ∷ bs) t)
-      ∙ ap (λ (l : List ℕ). b ∷ l) (split_colon bs)
+      ap (λ (l : List ℕ). l ++ rest (λ b. not (b == stop)) (b ∷ bs)) (cond-true (not (b == stop)) (b ∷ front (λ b. not (b == stop)) bs) [] t)
+      ∙ ap (λ (l : List ℕ). b ∷ (front (λ b. not (b == stop)) bs ++ l)) (cond-true (not (b == stop)) (rest (λ b. not (b == stop)) bs) (b ∷ bs) t)
+      ∙ ap (λ (l : List ℕ). b ∷ l) (split_before stop bs)
   | inr f ↦
-      ap (λ (l : List ℕ). l ++ rest (λ b. not (b == 58)) (b ∷ bs)) (cond-false (not (b == 58)) (b ∷ front (λ b. not (b == 58)) bs) [] f)
-      ∙ cond-false (not (b == 58)) (rest (λ b. not (b == 58)) bs) (b ∷ bs) f
+      ap (λ (l : List ℕ). l ++ rest (λ b. not (b == stop)) (b ∷ bs)) (cond-false (not (b == stop)) (b ∷ front (λ b. not (b == stop)) bs) [] f)
+      ∙ cond-false (not (b == stop)) (rest (λ b. not (b == stop)) bs) (b ∷ bs) f
 ]
 
-rest_colon : (word : List ℕ) (b : ℕ) (bs : List ℕ) → rest (λ b. not (b == 58)) word ≡ b ∷ bs → b ≡ 58
-rest_colon [] b bs e = absurd (cc e)
-rest_colon (c ∷ cs) b bs e = elim (told (not (c == 58))) [
-  | inl t ↦ rest_colon cs b bs (sym (cond-true (not (c == 58)) (rest (λ b. not (b == 58)) cs) (c ∷ cs) t) ∙ e)
+pub rest_from : (stop : ℕ) (word : List ℕ) (b : ℕ) (bs : List ℕ) → rest (λ b. not (b == stop)) word ≡ b ∷ bs → b ≡ stop
+rest_from stop [] b bs e = absurd (cc e)
+rest_from stop (c ∷ cs) b bs e = elim (told (not (c == stop))) [
+  | inl t ↦ rest_from stop cs b bs (sym (cond-true (not (c == stop)) (rest (λ b. not (b == stop)) cs) (c ∷ cs) t) ∙ e)
   | inr f ↦
-      let same : c ∷ cs ≡ b ∷ bs = sym (cond-false (not (c == 58)) (rest (λ b. not (b == 58)) cs) (c ∷ cs) f) ∙ e in
+      let same : c ∷ cs ≡ b ∷ bs = sym (cond-false (not (c == stop)) (rest (λ b. not (b == stop)) cs) (c ∷ cs) f) ∙ e in
       let first : c ≡ b = cc same in
-      sym first ∙ is_colon c f
+      sym first ∙ is_stop c f
 ]
   where
-    is_colon : (c : ℕ) → not (c == 58) ≡ false → c ≡ 58
-    is_colon c f = grind (arith, nat_tests)
+    is_stop : (c : ℕ) → not (c == stop) ≡ false → c ≡ stop
+    is_stop c f = grind (arith, nat_tests)
 
 pair_only : (word : List ℕ) (p : ℕ × ℤ) → pair_of word ≡ Some p → is_short p.0 ≡ true → fits p.1 ≡ true → word ≡ pair_word p
 pair_only word p e s f =
@@ -165,8 +165,8 @@ pair_only word p e s f =
         let z_is : m.0 ≡ p.1 = ap (λ (x : ℕ × ℤ). x.1) same in
         let left : front (λ b. not (b == 58)) word ≡ decimal p.0 = natural_only (front (λ b. not (b == 58)) word) p.0 (n ∙ ap (λ (x : ℕ). Some x) row_is) (short_natural p.0 s) in
         let right : bs ≡ whole_word p.1 = whole_only bs p.1 (m.1 ∙ ap (λ (x : ℤ). Some x) z_is) (short_whole p.1 f) in
-        sym (split_colon word) ∙ ap (λ (l : List ℕ). l ++ rest (λ b. not (b == 58)) word) left ∙ ap (λ (l : List ℕ). decimal p.0 ++ l) is
-        ∙ ap (λ (x : ℕ). decimal p.0 ++ x ∷ bs) (rest_colon word b bs is) ∙ ap (λ (l : List ℕ). decimal p.0 ++ 58 ∷ l) right
+        sym (split_before 58 word) ∙ ap (λ (l : List ℕ). l ++ rest (λ b. not (b == 58)) word) left ∙ ap (λ (l : List ℕ). decimal p.0 ++ l) is
+        ∙ ap (λ (x : ℕ). decimal p.0 ++ x ∷ bs) (rest_from 58 word b bs is) ∙ ap (λ (l : List ℕ). decimal p.0 ++ 58 ∷ l) right
 
 next_is : (least : ℕ) (q p : ℕ × ℤ) → if_next least q ≡ Some p → (q ≡ p) × (is_next least p ≡ true)
 next_is least q p e = go (is_next least q) refl e

@@ -21,7 +21,7 @@ use Rattle.cert_grammar.specs.Laws.{is_written_den, is_value}
 use Rattle.cert_grammar.specs.Nodes.{◌>?>◌}
 use Rattle.cert_grammar.specs.Wholes.{natural_of, whole_of}
 use Rattle.cert_grammar.proofs.Exact.{natural_only, whole_only}
-use Rattle.cert_grammar.proofs.Forms.{short_whole, made_of}
+use Rattle.cert_grammar.proofs.Forms.{short_whole, made_of, split_before, rest_from}
 
 -- what is read came of what was read before
 pub read_of : {A B C : Type 0} (r : Result A C) (f : A → Result B C) (y : B) → (r >>= f) ≡ Ok y → (x : A) × (r ≡ Ok x) × (f x ≡ Ok y)
@@ -138,31 +138,6 @@ route_only w r e = elim (chosen w (codes "bigm") (Some route.BigM) _ (Some r) e)
 ]
 
 -- the value
-split_stroke : (word : List ℕ) → front (λ b. not (b == 47)) word ++ rest (λ b. not (b == 47)) word ≡ word
-split_stroke [] = refl
-split_stroke (b ∷ bs) = elim (told (not (b == 47))) [
-  | inl t ↦
-      ap (λ (l : List ℕ). l ++ rest (λ b. not (b == 47)) (b ∷ bs)) (cond-true (not (b == 47)) (b ∷ front (λ b. not (b == 47)) bs) [] t)
-      ∙ ap (λ (l : List ℕ). b ∷ (front (λ b. not (b == 47)) bs ++ l)) (cond-true (not (b == 47)) (rest (λ b. not (b == 47)) bs) (b ∷ bs) t)
-      ∙ ap (λ (l : List ℕ). b ∷ l) (split_stroke bs)
-  | inr f ↦
-      ap (λ (l : List ℕ). l ++ rest (λ b. not (b == 47)) (b ∷ bs)) (cond-false (not (b == 47)) (b ∷ front (λ b. not (b == 47)) bs) [] f)
-      ∙ cond-false (not (b == 47)) (rest (λ b. not (b == 47)) bs) (b ∷ bs) f
-]
-
-rest_stroke : (word : List ℕ) (b : ℕ) (bs : List ℕ) → rest (λ b. not (b == 47)) word ≡ b ∷ bs → b ≡ 47
-rest_stroke [] b bs e = absurd (cc e)
-rest_stroke (c ∷ cs) b bs e = elim (told (not (c == 47))) [
-  | inl t ↦ rest_stroke cs b bs (sym (cond-true (not (c == 47)) (rest (λ b. not (b == 47)) cs) (c ∷ cs) t) ∙ e)
-  | inr f ↦
-      let same : c ∷ cs ≡ b ∷ bs = sym (cond-false (not (c == 47)) (rest (λ b. not (b == 47)) cs) (c ∷ cs) f) ∙ e in
-      let first : c ≡ b = cc same in
-      sym first ∙ is_stroke c f
-]
-  where
-    is_stroke : (c : ℕ) → not (c == 47) ≡ false → c ≡ 47
-    is_stroke c f = grind (arith, nat_tests)
-
 no_one : (q : ℕ) → nat_le 2 q ≡ true → (q == 1) ≡ false
 no_one q e = grind (arith, nat_tests)
 
@@ -171,7 +146,7 @@ small_den q f = short_whole (pos q) f
 
 -- the two parts of a word at its stroke
 joined : (word l r : List ℕ) → front (λ b. not (b == 47)) word ≡ l → rest (λ b. not (b == 47)) word ≡ r → word ≡ l ++ r
-joined word l r x y = sym (split_stroke word) ∙ ap (λ (w : List ℕ). w ++ rest (λ b. not (b == 47)) word) x ∙ ap (λ (w : List ℕ). l ++ w) y
+joined word l r x y = sym (split_before 47 word) ∙ ap (λ (w : List ℕ). w ++ rest (λ b. not (b == 47)) word) x ∙ ap (λ (w : List ℕ). l ++ w) y
 
 form_only : (word : List ℕ) (f : Fraction) → value_form word ≡ Some f → fits f.num ≡ true → fits f.den ≡ true → word ≡ value_word f
 form_only word f e a b = at_over (whole_of (front (λ b. not (b == 47)) word)) (rest (λ b. not (b == 47)) word) refl refl e
@@ -184,7 +159,7 @@ form_only word f e a b = at_over (whole_of (front (λ b. not (b == 47)) word)) (
         let fq : fits (pos q) ≡ true = ap (λ (x : Fraction). fits x.den) h.1 ∙ b in
         let many = no_one q (both (nat_le 2 q) (not (fits p && fits (pos q)) || nat_eq (common_divisor (unsigned_abs p) q) 1) h.0).0 in
         let left : front (λ b. not (b == 47)) word ≡ whole_word p = whole_only (front (λ b. not (b == 47)) word) p x (short_whole p fp) in
-        let right : c ∷ cs ≡ 47 ∷ decimal q = ap (λ (b : ℕ). b ∷ cs) (rest_stroke word c cs y) ∙ ap (λ (l : List ℕ). 47 ∷ l) (natural_only cs q n (small_den q fq)) in
+        let right : c ∷ cs ≡ 47 ∷ decimal q = ap (λ (b : ℕ). b ∷ cs) (rest_from 47 word c cs y) ∙ ap (λ (l : List ℕ). 47 ∷ l) (natural_only cs q n (small_den q fq)) in
         let written : value_word parts ≡ whole_word p ++ 47 ∷ decimal q = cond-false (q == 1) (whole_word p) (whole_word p ++ 47 ∷ decimal q) many in
         joined word (whole_word p) (47 ∷ decimal q) left (y ∙ right) ∙ sym written ∙ ap value_word h.1
 

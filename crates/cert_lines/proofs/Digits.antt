@@ -8,6 +8,7 @@ use Rattle.text_grammar.specs.Bytes.{is_digit}
 use Rattle.text_grammar.specs.Digits.{value_after, value_of}
 use Rattle.text_grammar.proofs.Bools.{told, both}
 use Rattle.cert_grammar.specs.Wholes.{is_exact}
+use Rattle.cert_grammar.proofs.Exact.{value_parts, all_behind, long_behind}
 use Rattle.cert_lines.specs.Reads.{digits_less}
 
 value_grows : (v : ℕ) (xs : List ℕ) → v ≤ value_after v xs
@@ -38,21 +39,6 @@ exact_digits (d ∷ []) e = single (is_digit d) e
     single : (b : Bool) → b ≡ true → (b && true) ≡ true
     single b e = grind (arith, e)
 exact_digits (d ∷ e ∷ ds) h = (both (not (d == 48)) (list_all is_digit (d ∷ e ∷ ds)) h).1
-
-value_parts : (v : ℕ) (n : ℕ) (xs : List ℕ) → value_after v xs ≡ value_after (value_after v (take n xs)) (drop n xs)
-value_parts v zero xs = refl
-value_parts v (suc n) [] = refl
-value_parts v (suc n) (x ∷ xs) = value_parts (v * 10 + (x - 48)) n xs
-
-all_behind : (n : ℕ) (xs : List ℕ) → list_all is_digit xs ≡ true → list_all is_digit (drop n xs) ≡ true
-all_behind zero xs p = p
-all_behind (suc n) [] p = refl
-all_behind (suc n) (x ∷ xs) p = all_behind n xs (both (is_digit x) (list_all is_digit xs) p).1
-
-long_behind : (n : ℕ) (xs : List ℕ) → n ≤ length xs → length (drop n xs) ≡ length xs - n
-long_behind zero xs le = omega arith
-long_behind (suc n) [] le = absurd (omega (arith, le))
-long_behind (suc n) (x ∷ xs) le = omega (arith, long_behind n xs (omega (arith, le)))
 
 -- a longer number is greater
 longer : (xs ys : List ℕ) → is_exact xs ≡ true → is_exact ys ≡ true → length xs < length ys → value_of xs < value_of ys
