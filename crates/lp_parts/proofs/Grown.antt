@@ -128,7 +128,7 @@ col_some c m r new (Some x) e other (inl h) more = go (nat_lt 4000 (width m.cols
       | inr h ↦ past_height (with_cols m (c ∷ more)) (omega (arith, less 3000 (height m + bounds_of c.kind) h, bounds_both m.cols (c ∷ more)))
     ]
 
--- a refusal that is not for want of memory
+-- a refusal for another cause than memory that ran out
 not_memory : (x y : MilpError) → x ≡ y → (y ≡ error.Memory → ⊥) → x ≡ error.Memory → ⊥
 not_memory x y e other h = other (sym e ∙ h)
 

@@ -88,7 +88,7 @@ some_given t p e n = go (told (is_within (milp_of t)))
     go (inl w) = let same : p ≡ lp_of t = cc (n ∙ cond-true (is_within (milp_of t)) (Some (lp_of t)) None w) in finished t e w ∙ ap (λ (q : LpValue). Ok q) (sym same)
     go (inr w) = absurd (cc (n ∙ cond-false (is_within (milp_of t)) (Some (lp_of t)) None w))
 
--- the text of a program gives that program, or memory is wanted
+-- the text of a program gives that program, or memory ran out
 pub written_read : (m : MilpValue) (text : List ℕ) (r : Result LpValue LpError) → IsMilp m → text ≡ lp_text_of m → IfOk r (LpSpells text) → IfErr r (IsBad text) → OrMemory Memory r (Ok (written_program m))
 written_read m text (Ok p) is e spelled bad = inl (ap (λ (q : LpValue). Ok q) (exact.one_value (lines text) p (written_program m) spelled (subst (λ (t : List ℕ). LpSpells t (written_program m)) (sym e) (written_spells m is))))
 written_read m text (Err (At line cause)) is e spelled bad =
