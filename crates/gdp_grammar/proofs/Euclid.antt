@@ -1,27 +1,16 @@
 -- A number's value is its quotient in lowest terms.
-use Rattle.std.proofs.Common.{◌≡◌, ◌≢◌, ℕ, zero, suc, ◌<◌, ◌*◌, ◌/◌, ◌%◌, Bool, true, false, pos, neg_ℤ, ◌*ℤ◌, refl, ap, sym, ◌∙◌, subst, arith}
+use Rattle.std.proofs.Common.{◌≡◌, ◌≢◌, ℕ, zero, suc, ◌<◌, ◌*◌, ◌/◌, Bool, true, false, ℤ, pos, neg_ℤ, ◌*ℤ◌, refl, ap, sym, ◌∙◌, subst, arith}
 use Rattle.std.specs.Prelude.{unsigned_abs}
 use Rattle.std.specs.Int.{IsGcd}
-use Rattle.std.proofs.Math.Nat.{div-mul_cancel, mod-lt, pos_of_dvd_of_pos}
-use Rattle.std.proofs.lemmas.Nat.Gcd.{IsGcd-from_zero, IsGcd-from_mod, IsGcd-swap}
+use Rattle.std.proofs.Math.Nat.{div-mul_cancel, one-dvd, pos_of_dvd_of_pos}
+use Rattle.std.proofs.lemmas.Nat.Gcd.{IsGcd-swap}
 use Rattle.std.proofs.lemmas.Int.{ints}
 use Rattle.int_linear.proofs.Ring.{neg_mul}
 use Rattle.fractions.specs.Fraction.{Fraction, IsReduced}
 use Rattle.fractions.proofs.Reduction.{reduced_over, reduced_same}
-use Rattle.gdp_grammar.specs.Numerals.{common_divisor_within, common_divisor, signed, lowest}
-
-divisor_within : (n p q : ℕ) → q < n → IsGcd p q (common_divisor_within n p q)
-unfolding common_divisor_within
-divisor_within zero p q room = absurd (omega (arith, room))
-divisor_within (suc n) p zero room = IsGcd-from_zero p zero refl
-divisor_within (suc n) p (suc q) room =
-    let shorter : p % suc q < suc q = mod-lt p (omega arith) in
-    IsGcd-from_mod p (suc q) (common_divisor_within n (suc q) (p % suc q)) (divisor_within n (suc q) (p % suc q) (omega (arith, room, shorter)))
-
--- Euclid's rule gives the greatest common divisor
-pub common_divisor_is : (p q : ℕ) → IsGcd p q (common_divisor p q)
-unfolding common_divisor
-common_divisor_is p q = divisor_within (suc q) p q (omega arith)
+use Rattle.fractions.specs.Lowest.{common_divisor}
+use Rattle.fractions.proofs.LowestLemmas.{common_divisor_is}
+use Rattle.gdp_grammar.specs.Numerals.{signed, lowest}
 
 pub size_of_signed : (is_negative : Bool) (p : ℕ) → unsigned_abs (signed is_negative p) ≡ p
 size_of_signed false p = refl
@@ -50,3 +39,17 @@ lowest_reduced is_negative p q some =
 -- a fraction in lowest terms with this value is the number's
 pub lowest_only : (is_negative : Bool) (p q : ℕ) (f : Fraction) → 0 < q → IsReduced (signed is_negative p) (pos q) f → f ≡ lowest is_negative p q
 lowest_only is_negative p q f some reduced = reduced_same (signed is_negative p) (pos q) f (lowest is_negative p q) reduced (lowest_reduced is_negative p q some)
+
+-- a whole number over 1 is in lowest terms, and is the only one that is equal to it
+gcd_of_one : (n : ℕ) → IsGcd n 1 1
+gcd_of_one n = (one-dvd n, one-dvd 1, λ d p q. q)
+
+whole_lowest : (n : ℤ) → IsReduced n (pos 1) (record { num = n; den = pos 1 })
+whole_lowest n = record {
+  divisible = λ e. cc e;
+  lowest = record { positive = omega (arith, ints); coprime = gcd_of_one (unsigned_abs n) };
+  same = refl;
+}
+
+pub whole_only : (n : ℤ) (f : Fraction) → IsReduced n (pos 1) f → f ≡ record { num = n; den = pos 1 }
+whole_only n f reduced = reduced_same n (pos 1) f (record { num = n; den = pos 1 }) reduced (whole_lowest n)

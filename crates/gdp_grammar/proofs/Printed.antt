@@ -8,14 +8,7 @@ use Rattle.model_tree.specs.Values.{ModelTree}
 use Rattle.model_tree.specs.View.{disjuncts_of, disjunctions_of, disjunct_of, disjunction_of, rows_in, props_in, disjunctions_in}
 use Rattle.gdp_grammar.specs.Canonical.{disjunctions_lines, disjuncts_lines, lines_of_disjunction, lines_of_disjunct, disjunction_line, disjunct_line, block_lines, numbers_of, row_line, logic_line, var_line, boolean_line, free_booleans, goal_line, canonical_lines}
 use Rattle.text_grammar.specs.Printing.{spaced, text_of}
-
-pub text_appended : (xs ys : List (List ℕ)) → text_of (xs ++ ys) ≡ text_of xs ++ text_of ys
-text_appended [] ys = refl
-text_appended (x ∷ xs) ys = ap (λ t. x ++ 10 ∷ t) (text_appended xs ys) ∙ sym (append_assoc x (10 ∷ text_of xs) (text_of ys))
-
-pub spaced_appended : (xs ys : List (List ℕ)) → spaced (xs ++ ys) ≡ spaced xs ++ spaced ys
-spaced_appended [] ys = refl
-spaced_appended (x ∷ xs) ys = ap (λ t. 32 ∷ x ++ t) (spaced_appended xs ys) ∙ ap (λ t. 32 ∷ t) (sym (append_assoc x (spaced xs) (spaced ys)))
+use Rattle.text_grammar.proofs.PrintingLemmas.{text_appended}
 
 -- the lines of a disjunction before others, and of a disjunct
 disjunction_before : (m : ModelTree) (d : Disjunction) (rest : List (List ℕ))

@@ -14,9 +14,9 @@ use Rattle.model_tree.specs.Scaling.{is_multiple, divides_all, all_divide, least
 use Rattle.model_tree.proofs.ScalingLemmas.{divides, is_divided, least_scale_is, least_scale_below}
 use Rattle.gdp_grammar.specs.Canonical.{terms_over}
 use Rattle.gdp_grammar.specs.Lowest.{common_divisor, signed_as, over}
-use Rattle.gdp_grammar.specs.Numerals as numerals
+use Rattle.fractions.specs.Lowest as euclid
 use Rattle.text_grammar.proofs.Bools.{both, and_true}
-use Rattle.gdp_grammar.proofs.Euclid.{common_divisor_is}
+use Rattle.fractions.proofs.LowestLemmas.{common_divisor_is}
 use Rattle.gdp_grammar.proofs.Lowest.{greatest_is_gcd, signed_times}
 
 -- what the divisor of a number and a scale is
@@ -123,7 +123,7 @@ least_is s ns some least =
     let ds : List ℕ = dens s ns in
     let k : ℕ = least_scale ds in
     let l = least_scale_is ds (dens_positive s ns some) in
-    let g : ℕ = numerals.common_divisor k s in
+    let g : ℕ = euclid.common_divisor k s in
     let gcd : IsGcd k s g = common_divisor_is k s in
     let g_some : 0 < g = pos_of_dvd_of_pos gcd.1 some in
     let up : k ≤ g = least_scale_below ds g (dens_positive s ns some) g_some (both_divide ds k s g gcd l.divided (dens_divide s ns some)) in

@@ -9,7 +9,7 @@ use Rattle.text_grammar.specs.Lexers.{tokens_by}
 use Rattle.gdp_grammar.specs.Spelling.{model_grammar}
 use Rattle.gdp_grammar.specs.Forms.{signed_of, low_after, high_of, summand_of, summands_of, sum_of, constant_of, var_of, boolean_of, number_goal_of, terms_goal_of, row_of, disjunction_of, disjunct_of, end_of}
 use Rattle.gdp_grammar.specs.Laws.{WorkedTexts}
-use Rattle.gdp_grammar.specs.Numerals.{common_divisor_within, common_divisor}
+use Rattle.fractions.specs.Lowest.{common_divisor_within, common_divisor}
 use Rattle.gdp_grammar.specs.PropReading.{prop_of}
 use Rattle.gdp_grammar.specs.Reading.{with_var, terms_of, with_goal, with_row, with_logic, with_line, model_after}
 use Rattle.gdp_grammar.specs.Tokens.{numeral_of, double_of, token_of, tokens_of}

@@ -1,7 +1,8 @@
 -- Numbers as they are spelled, and their values.
-use Rattle.std.specs.Prelude.{ℕ, zero, suc, ◌/◌, ◌%◌, ◌^◌, ℤ, pos, neg_ℤ, Bool, ◌&&◌, nat_le, List, length, Option, None, Some, if◌then◌else◌}
+use Rattle.std.specs.Prelude.{ℕ, ◌/◌, ◌^◌, ℤ, pos, neg_ℤ, Bool, ◌&&◌, nat_le, List, length, Option, None, Some, if◌then◌else◌}
 use Rattle.text_grammar.specs.Digits.{value_after}
 use Rattle.fractions.specs.Fraction as fraction
+use Rattle.fractions.specs.Lowest.{common_divisor}
 
 -- a whole number, a fraction or a decimal, by its digits
 pub data Numeral : Type 0 where
@@ -24,16 +25,6 @@ under_part (Decimal digits places) = 10 ^ length places
 -- p is at most 10 ^ 15, and q from 1 to 10 ^ 15
 abbrev pub are_parts : ℕ → ℕ → Bool
 are_parts p q = nat_le p (10 ^ 15) && (nat_le 1 q && nat_le q (10 ^ 15))
-
--- the greatest common divisor, by at most n remainders
-unfoldable pub common_divisor_within : ℕ → ℕ → ℕ → ℕ
-common_divisor_within zero p q = p
-common_divisor_within (suc n) p zero = p
-common_divisor_within (suc n) p (suc q) = common_divisor_within n (suc q) (p % suc q)
-
--- the greatest common divisor, by Euclid's rule
-unfoldable pub common_divisor : ℕ → ℕ → ℕ
-common_divisor p q = common_divisor_within (suc q) p q
 
 -- a whole number with its sign
 abbrev pub signed : Bool → ℕ → ℤ

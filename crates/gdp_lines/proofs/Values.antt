@@ -3,13 +3,8 @@ use Rattle.std.proofs.Common.{◌≡◌, ℕ, ◌+◌, ◌-◌, ◌*◌, ◌^◌
 use Rattle.std.proofs.lemmas.List.{drop_more}
 use Rattle.std.proofs.lemmas.Bool.{cond-true, cond-false}
 use Rattle.std.proofs.lemmas.Bool.Decides.{nat_tests}
-use Rattle.std.specs.Prelude.{unsigned_abs}
-use Rattle.std.specs.Int.{IsGcd}
-use Rattle.std.proofs.lemmas.Int.{ints}
-use Rattle.std.proofs.Math.Nat.{one-dvd, pow-le-pow_right}
+use Rattle.std.proofs.Math.Nat.{pow-le-pow_right}
 use Rattle.text_grammar.proofs.Bools.{told}
-use Rattle.fractions.specs.Fraction.{Fraction, IsReduced}
-use Rattle.fractions.proofs.Reduction.{reduced_same}
 use Rattle.text_grammar.specs.Digits.{value_after}
 use Rattle.gdp_lines.specs.Ranges.{in_range}
 
@@ -30,20 +25,6 @@ within_range size within = cond-true (nat_le size (10 ^ 15)) (Some size) None (g
 -- Past the range it stays, whatever digits follow.
 pub stays_past : (size whole : ℕ) (rest : List ℕ) → value_after size rest ≡ whole → 10 ^ 15 < size → in_range whole ≡ None
 stays_past size whole rest same past = past_range whole (omega (arith, same, past, decimal_grows size rest))
-
--- a whole number over 1 is in lowest terms, and is the only one that is equal to it
-gcd_of_one : (n : ℕ) → IsGcd n 1 1
-gcd_of_one n = (one-dvd n, one-dvd 1, λ d p q. q)
-
-pub whole_lowest : (n : ℤ) → IsReduced n (pos 1) (record { num = n; den = pos 1 })
-whole_lowest n = record {
-  divisible = λ e. cc e;
-  lowest = record { positive = omega (arith, ints); coprime = gcd_of_one (unsigned_abs n) };
-  same = refl;
-}
-
-pub whole_only : (n : ℤ) (f : Fraction) → IsReduced n (pos 1) f → f ≡ record { num = n; den = pos 1 }
-whole_only n f reduced = reduced_same n (pos 1) f (record { num = n; den = pos 1 }) reduced (whole_lowest n)
 
 -- a part that is not in range
 pub none_past : (size : ℕ) → None ≡ in_range size → 10 ^ 15 < size

@@ -1,29 +1,9 @@
 -- Whole numbers as fractions, and the rows and goals of them.
 use Rattle.std.proofs.Common.{◌≡◌, ℕ, suc, ◌/◌, ℤ, pos, negsuc, Bool, true, false, ◌&&◌, cond, List, [], ◌∷◌, refl, arith}
-use Rattle.std.specs.Prelude.{unsigned_abs}
-use Rattle.std.specs.Int.{IsGcd}
-use Rattle.std.proofs.Math.Nat.{one-dvd}
-use Rattle.std.proofs.lemmas.Int.{ints}
-use Rattle.fractions.specs.Fraction.{Fraction, IsReduced}
-use Rattle.fractions.proofs.Reduction.{reduced_same}
 use Rattle.gdp_grammar.specs.Canonical.{terms_over}
 use Rattle.gdp_grammar.specs.Lowest.{greatest_divisor, over}
 use Rattle.model_tree.specs.Scaling.{is_multiple}
 use Rattle.model_maker.specs.Steps.{as_fractions}
-
--- a whole number over 1 is in lowest terms, and is the only one that is equal to it
-gcd_of_one : (n : ℕ) → IsGcd n 1 1
-gcd_of_one n = (one-dvd n, one-dvd 1, λ d p q. q)
-
-whole_lowest : (n : ℤ) → IsReduced n (pos 1) (record { num = n; den = pos 1 })
-whole_lowest n = record {
-  divisible = λ e. cc e;
-  lowest = record { positive = omega (arith, ints); coprime = gcd_of_one (unsigned_abs n) };
-  same = refl;
-}
-
-pub whole_only : (n : ℤ) (f : Fraction) → IsReduced n (pos 1) f → f ≡ record { num = n; den = pos 1 }
-whole_only n f reduced = reduced_same n (pos 1) f (record { num = n; den = pos 1 }) reduced (whole_lowest n)
 
 -- a number over 1 is itself
 only_one : (n : ℕ) → greatest_divisor 1 n 1 ≡ 1

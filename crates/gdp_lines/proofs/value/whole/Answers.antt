@@ -1,6 +1,6 @@
 use Rattle.std.proofs.Common.{ℤ, pos, ap, ◌∙◌, to_z-of_z}
 use Rattle.fractions.specs.Fraction.{Fraction}
-use Rattle.gdp_lines.proofs.Values.{whole_only}
+use Rattle.gdp_grammar.proofs.Euclid.{whole_only}
 use Rattle.gdp_lines.proofs.value.whole.Goals as goal
 
 over_one : ℤ → Fraction

@@ -1,7 +1,7 @@
 use Rattle.std.proofs.Common.{◌≡◌, ◌∙◌, ℤ, pos, ap, rules, to_z, of_z}
 use Rattle.std.specs.Int.{w128}
 use Rattle.fractions.specs.Fraction.{Fraction}
-use Rattle.model_maker.proofs.Whole.{whole_only}
+use Rattle.gdp_grammar.proofs.Euclid.{whole_only}
 use Rattle.model_maker.proofs.calls.whole.Goals as goal
 
 over_one : ℤ → Fraction
