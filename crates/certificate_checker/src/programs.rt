@@ -12,11 +12,11 @@ ghost use Rattle.certificate_checker.specs.Programs.{is_int as int, is_inner as 
 use fractions::Frac;
 use lp_frame::Force;
 use lp_rows::{Col, Kind};
-use milp_forces::milp_force;
+use milp_forces::{Trail, trail_force};
 use milps::Milp;
 use node_checker::{Least, Tested, check_nodes};
 use outcomes::Memory;
-use proof_tree::{CheckError, Path, Proof, Split};
+use proof_tree::{CheckError, Proof, Split};
 use std::alloc::Global;
 
 // A program, over which nodes are tested.
@@ -28,19 +28,19 @@ pub(crate) struct Program<'a> {
 impl<'a> Tested for Program<'a> {
     ghost subject = { λ me. subject_of me.milp.now };
 
-    fn force(&self, alloc: Global, path: &Path) -> Result<Force, Memory> {
+    fn force(&self, alloc: Global, trail: &Trail) -> Result<Force, Memory> {
         let _cols = self.milp.cols();
-        milp_force(alloc, self.milp, path, true)
+        trail_force(alloc, self.milp, trail, true)
     }
 
-    fn allows(&self, _path: &Path, split: Split) -> bool {
+    fn allows(&self, _trail: &Trail, split: Split) -> bool {
         match split {
             Split::Int { column, at } => is_int(kind_of(self.milp.cols(), column)) && is_inner(at),
             Split::Truth { id: _ } => false,
         }
     }
 
-    fn is_false(&self, _alloc: Global, _path: &Path, _item: u32) -> Result<bool, Memory> {
+    fn is_false(&self, _alloc: Global, _trail: &Trail, _item: u32) -> Result<bool, Memory> {
         Ok(false)
     }
 }

@@ -20,12 +20,13 @@ use certificate_checker::{Refusal, check_proof, is_inner, refusal_of_claim};
 use gdp_io::Name;
 use lp_frame::Force;
 use lp_rows::{Kind, sum_at};
+use milp_forces::Trail;
 use model_forces::{is_no, is_open, known, model_force, tris};
 use model_items::{item_count, item_tri};
 use model_tree::{Bound, Model};
 use node_checker::{Least, Tested};
 use outcomes::Memory;
-use proof_tree::{Half, Path, Split};
+use proof_tree::{Half, Split};
 use std::alloc::Global;
 
 // The nodes of a model.
@@ -37,17 +38,17 @@ struct Nodes<'a> {
 impl<'a> Tested for Nodes<'a> {
     ghost subject = { λ me. nodes_of (model_tree me.model.now) };
 
-    fn force(&self, alloc: Global, path: &Path) -> Result<Force, Memory> {
+    fn force(&self, alloc: Global, trail: &Trail) -> Result<Force, Memory> {
         let _vars = self.model.vars();
-        model_force(alloc, self.model, path, true)
+        model_force(alloc, self.model, trail.path(), true)
     }
 
-    fn allows(&self, path: &Path, split: Split) -> bool {
-        may_split(self.model, path.halves(), split)
+    fn allows(&self, trail: &Trail, split: Split) -> bool {
+        may_split(self.model, trail.path().halves(), split)
     }
 
-    fn is_false(&self, alloc: Global, path: &Path, item: u32) -> Result<bool, Memory> {
-        is_item_false(alloc, self.model, path.halves(), item)
+    fn is_false(&self, alloc: Global, trail: &Trail, item: u32) -> Result<bool, Memory> {
+        is_item_false(alloc, self.model, trail.path().halves(), item)
     }
 }
 

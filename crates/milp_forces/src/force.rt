@@ -150,7 +150,7 @@ fn push_bounds(
     Ok(())
 }
 
-fn next(column: u32) -> u32
+pub(crate) fn next(column: u32) -> u32
     ensures { column + 1 < 2 ^ 32 → result ≡ column + 1 }
 {
     column.wrapping_add(1)
@@ -175,7 +175,7 @@ fn push_column(
     }
 }
 
-fn push_low(
+pub(crate) fn push_low(
     alloc: Global,
     rows: &mut AtMostList,
     column: u32,
@@ -189,7 +189,7 @@ fn push_low(
     }
 }
 
-fn push_high(
+pub(crate) fn push_high(
     alloc: Global,
     rows: &mut AtMostList,
     column: u32,
@@ -238,7 +238,7 @@ fn highest(halves: &[Half], column: u32) -> Option<i128>
     high
 }
 
-fn raised(split: Split, second: bool, column: u32, low: Option<i128>) -> Option<i128>
+pub(crate) fn raised(split: Split, second: bool, column: u32, low: Option<i128>) -> Option<i128>
     ensures { result ≡ low_step split second column low }
 {
     match split {
@@ -262,7 +262,7 @@ fn greatest(low: Option<i128>, at: i128) -> i128
     }
 }
 
-fn lowered(split: Split, second: bool, column: u32, high: Option<i128>) -> Option<i128>
+pub(crate) fn lowered(split: Split, second: bool, column: u32, high: Option<i128>) -> Option<i128>
     ensures { result ≡ high_step split second column high }
 {
     match split {

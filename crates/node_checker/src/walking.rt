@@ -11,14 +11,15 @@ use crate::errors::NodeError;
 use crate::least::Least;
 use crate::leaves::test_node;
 use crate::tested::Tested;
+use milp_forces::Trail;
 use outcomes::Memory;
-use proof_tree::{CheckError, Half, Node, Path, Proof};
+use proof_tree::{CheckError, Half, Node, Proof};
 use std::alloc::Global;
 
 /// Tests the nodes in preorder, each at its path: the first that fails, or in whose test a number is wide, decides.
 ///
 /// With a value the proof is to show that no point has a better one, and else that there is no point. One path is kept,
-/// which is as long as the node is deep.
+/// which is as long as the node is deep, with the bounds that it sets, so that going on takes no longer where it is deep.
 pub fn check_nodes<T: Tested>(
     alloc: Global,
     tested: &T,
@@ -28,15 +29,15 @@ pub fn check_nodes<T: Tested>(
     ensures { (t : ProofTree) → preorder t ≡ proof.now →
         OrMemory CheckError.Memory result (verdict (node_test (T.subject tested.now) (least_of least.now)) 0 (visits [] t)) }
 {
-    let mut path = Path::new(alloc);
+    let mut trail = Trail::new(alloc);
     let mut number: u64 = 0;
     for node in proof.nodes() {
-        match test_node(alloc, tested, least, &path, node) {
+        match test_node(alloc, tested, least, &trail, node) {
             Ok(()) => {}
             Err(error) => return Err(refusal(number, error)),
         }
         number += 1;
-        if step(&mut path, node).is_err() {
+        if step(&mut trail, node).is_err() {
             return Err(CheckError::Memory);
         }
     }
@@ -54,17 +55,14 @@ fn refusal(node: u64, error: NodeError) -> CheckError
 }
 
 // Goes on from a node's path to that of the next node.
-fn step(path: &mut Path, node: &Node) -> Result<(), Memory>
-    ensures { OnOk result (path.new ≡ rest_of (next_path path.old node.now)) }
+fn step(trail: &mut Trail, node: &Node) -> Result<(), Memory>
+    ensures { OnOk result (trail.new ≡ rest_of (next_path trail.old node.now)) }
 {
     match node {
-        Node::Split(split) => path.push(Half {
+        Node::Split(split) => trail.push(Half {
             split: *split,
             second: false,
         }),
-        _ => {
-            let _more = path.advance();
-            Ok(())
-        }
+        _ => trail.advance(),
     }
 }

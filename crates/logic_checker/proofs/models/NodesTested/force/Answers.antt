@@ -1,4 +1,4 @@
-use Rattle.std.proofs.Common.{◌≡◌, true, rules}
+use Rattle.std.proofs.Common.{true}
 use Rattle.model_tree.specs.Values.{model_tree}
 use Rattle.certificate_checker.proofs.Shows.{if_bounded}
 use Rattle.model_forces.specs.Forces.{model_force_of}
@@ -9,5 +9,6 @@ use Rattle.logic_checker.proofs.models.NodesTested.force.Goals as goal
 pub returns-clause-bounded : goal.returns-clause-bounded
 returns-clause-bounded c =
     let m = model_tree c.args.self.now.model.now in
-    let p = c.args.path.now in
-    if_bounded c.model_force.result (model_force_of m p true) c.model_force.ensures (force_is_bounded m p true c.vars-vars.ensures.sound (path_of m p c.requires))
+    let p = c.args.trail.now in
+    let there = rw c.path.ensures at c.model_force.ensures in
+    if_bounded c.model_force.result (model_force_of m p true) there (force_is_bounded m p true c.vars-vars.ensures.sound (path_of m p c.requires))

@@ -1,0 +1,26 @@
+-- The tightest bounds that a path sets, kept as tables, and what stood in them before each half.
+use Rattle.std.specs.Prelude.{◌≡◌, ℕ, ℤ, Bool, true, false, List, [], ◌∷◌, Option, None, slice_index_or}
+use Rattle.proof_tree.specs.declared.path.Split.{Split}
+use Rattle.proof_tree.specs.declared.path.Split.TheVariants as split
+use Rattle.proof_tree.specs.declared.path.Half.{Half}
+use Rattle.milp_forces.specs.Forces.{low_at, high_at}
+
+-- what a table has for column j, none past its end
+abbrev pub kept : List (Option ℤ) → ℕ → Option ℤ
+kept table j = slice_index_or table j None
+
+-- the tables have the tightest lows and highs of the path
+pub record AreKept (lows highs : List (Option ℤ)) (p : List Half) : Type 0 where
+  pub low : (j : ℕ) → kept lows j ≡ low_at p j
+  pub high : (j : ℕ) → kept highs j ≡ high_at p j
+
+-- what stood before a half of this split, of its column and on its side
+abbrev pub stood : Split → Bool → List Half → Option ℤ
+stood (split.Int c k) true p = low_at p c
+stood (split.Int c k) false p = high_at p c
+stood (split.Truth id) second p = None
+
+-- what stood before each half of the path
+abbrev pub all_stood : List Half → List (Option ℤ)
+all_stood [] = []
+all_stood (h ∷ p) = stood h.split h.second p ∷ all_stood p
