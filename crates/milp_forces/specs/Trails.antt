@@ -14,6 +14,15 @@ pub record AreKept (lows highs : List (Option ℤ)) (p : List Half) : Type 0 whe
   pub low : (j : ℕ) → kept lows j ≡ low_at p j
   pub high : (j : ℕ) → kept highs j ≡ high_at p j
 
+-- the halves of splits on Booleans
+abbrev pub with_truth : Split → Half → List Half → List Half
+with_truth (split.Int c k) h hs = hs
+with_truth (split.Truth id) h hs = h ∷ hs
+
+abbrev pub truths_of : List Half → List Half
+truths_of [] = []
+truths_of (h ∷ p) = with_truth h.split h (truths_of p)
+
 -- what stood before a half of this split, of its column and on its side
 abbrev pub stood : Split → Bool → List Half → Option ℤ
 stood (split.Int c k) true p = low_at p c

@@ -39,8 +39,8 @@ fn push_kept(
     Ok(())
 }
 
-// Adds the bounds of one column.
-fn push_kept_column(
+/// Adds the bounds of one column where the trail stands, none where its kind is real.
+pub fn push_kept_column(
     alloc: Global,
     rows: &mut AtMostList,
     kind: Kind,

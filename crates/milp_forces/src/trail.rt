@@ -1,10 +1,10 @@
-//! A path that keeps the tightest bounds that it sets.
+//! A path that keeps the tightest bounds that it sets, and its truths.
 
 ghost use Rattle.std.specs.Prelude.{◌≡◌, ◌<◌, ℕ, ℤ, List, [], ◌∷◌, Option, OnOk, OnErr, IfOk, length, nat_eq, reverse, if◌then◌else◌};
 ghost use Rattle.proof_tree.specs.declared.path.Half.{Half};
 ghost use Rattle.proof_tree.specs.Paths.{after_leaf, popped, rest_of};
 ghost use Rattle.milp_forces.specs.Forces.{low_at, high_at};
-ghost use Rattle.milp_forces.specs.Trails.{kept, stood, all_stood, AreKept};
+ghost use Rattle.milp_forces.specs.Trails.{kept, stood, all_stood, truths_of, with_truth, AreKept};
 
 use crate::force::{lowered, raised};
 use outcomes::Memory;
@@ -12,12 +12,14 @@ use proof_tree::{Half, Path, Split};
 use std::alloc::Global;
 use std::marker::Model;
 
-/// A path with the tightest bounds that it sets for each column, which are changed half by half; clauses see the path.
+/// A path with the tightest bounds that it sets for each column, which are changed half by half, and with its halves of
+/// Booleans apart; clauses see the path.
 ///
 /// It takes memory by its length and by the greatest column that it splits.
 #[derive(Drop)]
 pub struct Trail {
     path: Path,
+    truths: Path,
     before: Vec<Option<i128>>,
     lows: Vec<Option<i128>>,
     highs: Vec<Option<i128>>,
@@ -26,13 +28,13 @@ pub struct Trail {
 impl Model for Trail {
     ghost use Rattle.std.specs.Prelude.{◌≡◌, List, reverse};
     ghost use Rattle.proof_tree.specs.declared.path.Half.{Half};
-    ghost use Rattle.milp_forces.specs.Trails.{all_stood, AreKept};
+    ghost use Rattle.milp_forces.specs.Trails.{all_stood, truths_of, AreKept};
 
     ghost Value = { List Half };
 
     ghost view = { λ t. t.path };
 
-    ghost invariant = { λ t. (reverse t.before.items ≡ all_stood t.path) × AreKept t.lows.items t.highs.items t.path };
+    ghost invariant = { λ t. (t.truths ≡ truths_of t.path) × (reverse t.before.items ≡ all_stood t.path) × AreKept t.lows.items t.highs.items t.path };
 }
 
 impl Trail {
@@ -42,17 +44,18 @@ impl Trail {
     {
         Trail {
             path: Path::new(alloc),
+            truths: Path::new(alloc),
             before: Vec::new(alloc),
             lows: Vec::new(alloc),
             highs: Vec::new(alloc),
         }
     }
 
-    /// The path.
-    pub fn path(&self) -> &Path
-        ensures { result.now ≡ self.now }
+    /// The halves of Booleans.
+    pub fn truths(&self) -> &Path
+        ensures { result.now ≡ truths_of self.now }
     {
-        &self.path
+        &self.truths
     }
 
     /// The greatest number of a second half of the column.
@@ -77,12 +80,17 @@ impl Trail {
             return Err(Memory);
         }
         self.path.push(half)?;
+        if push_truth(&mut self.truths, half).is_err() {
+            let _half = self.path.pop();
+            return Err(Memory);
+        }
         match set(&mut self.lows, &mut self.highs, half) {
             Ok(before) => {
                 self.before.push_reserved(before);
                 Ok(())
             }
             Err(memory) => {
+                pop_truth(&mut self.truths, half);
                 let _half = self.path.pop();
                 Err(memory)
             }
@@ -98,6 +106,7 @@ impl Trail {
         };
         let before = last(&self.before);
         reset(&mut self.lows, &mut self.highs, half, before)?;
+        pop_truth(&mut self.truths, half);
         let _before = self.before.pop();
         Ok(self.path.pop())
     }
@@ -115,6 +124,29 @@ impl Trail {
             }
         }
         Ok(())
+    }
+}
+
+// Appends a half of a Boolean; a refused one changes nothing.
+fn push_truth(truths: &mut Path, half: Half) -> Result<(), Memory>
+    ensures ok { OnOk result (truths.new ≡ with_truth half.split half truths.old) }
+    ensures err { OnErr result (truths.new ≡ truths.old) }
+{
+    match half.split {
+        Split::Int { column: _, at: _ } => Ok(()),
+        Split::Truth { id: _ } => truths.push(half),
+    }
+}
+
+// Takes the last half away where this is one of a Boolean.
+fn pop_truth(truths: &mut Path, half: Half)
+    ensures { (p : List Half) → truths.old ≡ with_truth half.split half p → truths.new ≡ p }
+{
+    match half.split {
+        Split::Int { column: _, at: _ } => {}
+        Split::Truth { id: _ } => {
+            let _half = truths.pop();
+        }
     }
 }
 

@@ -10,5 +10,4 @@ pub returns-clause-bounded : goal.returns-clause-bounded
 returns-clause-bounded c =
     let m = model_tree c.args.self.now.model.now in
     let p = c.args.trail.now in
-    let there = rw c.path.ensures at c.model_force.ensures in
-    if_bounded c.model_force.result (model_force_of m p true) there (force_is_bounded m p true c.vars-vars.ensures.sound (path_of m p c.requires))
+    if_bounded c.force_there.result (model_force_of m p true) c.force_there.ensures (force_is_bounded m p true c.vars-vars.ensures.sound (path_of m p c.requires))
