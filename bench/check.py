@@ -72,8 +72,10 @@ def large(folder: pathlib.Path) -> None:
         ("a variable split in the middle", 19, whole(2**19 - 1), "bigm", 2**19 - 1, halves(19)),
         ("Booleans tried both ways", 19, free, "logic", 1, truths(19)),
         ("a variable split at each value", 12_500, whole(12_500), "bigm", 12_500, chain(12_500)),
-        ("the same", 25_000, whole(25_000), "bigm", 25_000, chain(25_000)),
         ("the same", 50_000, whole(50_000), "bigm", 50_000, chain(50_000)),
+        ("the same", 500_000, whole(500_000), "bigm", 500_000, chain(500_000)),
+        ("the same, over the model itself", 12_500, whole(12_500), "logic", 12_500, chain(12_500)),
+        ("the same", 500_000, whole(500_000), "logic", 500_000, chain(500_000)),
     ]
     model, path = folder / "model", folder / "answer"
     for name, depth, text, route, best, nodes in made:
