@@ -76,6 +76,8 @@ def by_hand():
         changed("a carriage return", b"val n 3", b"val n 3\r", "A: line 5: Form"),
         changed("over 0", b"over 1", b"over 0", "A: line 4: Number"),
         changed("a number past 128 bits", b"val n 3", b"val n 170141183460469231731687303715884105728", "A: line 5: Number"),
+        changed("a split at a number of 5,000 digits", b"int 0 3", b"int 0 " + b"7" * 5000, "A: line 7: Number"),
+        changed("a row number of 5,000 digits", b"1:1 2:2", b"1:1 " + b"7" * 5000 + b":2", "A: line 9: Number"),
         changed("pairs out of order", b"1:1 2:2", b"2:2 1:1", "A: line 9: Form"),
         changed("a multiplier of 0", b"1:1", b"1:0", "A: line 9: Form"),
         ("no newline at the end", MODEL, ANSWER[:-1], "A: line 10: Form"),
