@@ -715,6 +715,7 @@ def drawn(count):
 
 def cases(root):
     """The whole table."""
+    solve_cases.check_searches(root)
     told = verdicts() + spellings() + refusals() + choices() + formats() + truths() + propositions() + words() + reads() + sizes() + streams() + examples(root)
     told += compile_cases.compile_rows() + compile_cases.examples(root) + solve_cases.solve_rows() + solve_cases.examples(root)
     told += lp_cases.lp_rows() + page_cases.pages(root) + lp_cases.plan_rows(root) + make_cases.make_rows()

@@ -15,6 +15,8 @@ from drawn_models import drawn_models
 from full_model import full_model, point
 from reference import answer
 from reference.enumeration import optimum
+from reference.rewriting import compiled
+from reference.search import PickedSearch, ProgramNodes
 from reference.texts import read_model
 
 ROUTES = ("bigm", "hull", "hybrid", "logic")
@@ -366,6 +368,36 @@ def example_answer(words):
 def example_optimum(name):
     with open(name, "rb") as file:
         return optimum(read_model(file.read()))
+
+
+def check_searches(root):
+    """Compares what the searches by picks in the script of `command_player` are to print with a second way of reckoning it."""
+    folder = root / "crates" / "command_player"
+    lines, said = ((folder / name).read_text().splitlines() for name in ("stdin", "stdout"))
+    model, count = b"", 0
+    for line, printed in zip(lines, said):
+        word, _, rest = line.partition(" ")
+        model = rest.replace("\\n", "\n").encode() if word == "model" else model
+        if word != "search":
+            continue
+        steps, *picks = map(int, rest.split())
+        search = PickedSearch(ProgramNodes(compiled(read_model(model), "bigm")), steps, picks)
+        kind, *value = search.run()
+        claim = f"best {value[0].numerator}/{value[0].denominator}, accepted" if value else "empty, accepted" if kind == "empty" else kind
+        assert printed == f"{claim}: {' '.join(map(event, search.log))}", f"{line}: {printed}"
+        depth, found = answer(["solve", "bigm", str(steps), "M"], {"M": model})[1].decode().split("\n")[2], optimum(read_model(model))
+        assert depth == (f"best {value[0]}" if value else kind), f"{line}: {claim}, and in depth order {depth}"
+        assert found in (None, (kind, *value)), f"{line}: {claim}, and {found} was reckoned"
+        count += 1
+    assert count, "no search by picks"
+
+
+def event(line):
+    """A line of a log as the script has it."""
+    word, *numbers = line.split()
+    if numbers == ["root"]:
+        return "root"
+    return f"move:{numbers[0]}:{numbers[1]}" if word == "move" else f"{'first' if numbers[1] == '1' else 'second'}:{numbers[0]}"
 
 
 def solve_rows():

@@ -253,3 +253,29 @@ class Search:
         ended = self.leaf(force, "bounded", tableau.goal_scale(), tableau.multipliers())
         self.best, self.found = level, (over, numbers, truths)
         return ended
+
+
+class PickedSearch(Search):
+    """A search in an order of picks: each turn opens the half at the next pick in order of making, modulo how many wait, and past
+    the last pick the half made first. Its proof's nodes stand in the order in which they were closed.
+    """
+
+    def __init__(self, nodes, steps, picks):
+        super().__init__(nodes, steps)
+        self.picks = picks
+
+    def run(self):
+        """The kind of the claim, and for `best` its value: the goal's, where it is to be minimised."""
+        waiting = [([], None, "open root")]
+        while waiting:
+            pick = self.picks[self.opened] if self.opened < len(self.picks) else 0
+            path, kept, line = waiting.pop(pick % len(waiting))
+            self.step(line)
+            number, self.opened = self.opened, self.opened + 1
+            ended = self.settle(path, kept)
+            if ended[0] == "endless":
+                return ended[:1]
+            if ended[0] == "split":
+                for half in (False, True):
+                    waiting.append(([*path, (*ended[1], half)], ended[2], f"open {number} {2 if half else 1}"))
+        return ("empty",) if self.found is None else ("best", self.best)

@@ -2,11 +2,12 @@
 //! the status, what was written and which names were opened.
 //!
 //! It is a test: the script stands in the file `stdin`, and the answers, which come from outside, in `stdout`.
-//! Read `commands.rt` for the calls of `run`, `texts.rt` for the texts of a script, and `watched.rt` for a shelf that
-//! reveals the names that were opened.
+//! Read `commands.rt` for the calls of `run`, `orders.rt` for searches in another order than by depth, `texts.rt` for the
+//! texts of a script, and `watched.rt` for a shelf that reveals the names that were opened.
 #![tactic(auto)]
 
 mod commands;
+mod orders;
 mod texts;
 mod watched;
 
@@ -25,6 +26,7 @@ impl Player for Texts {
             "blank_model" => self.model = blanks(alloc, text)?,
             "blank_point" => self.point = blanks(alloc, text)?,
             "run" => return commands::ask(alloc, self, split(alloc, text)?.as_slice()),
+            "search" => return orders::ask(alloc, self, split(alloc, text)?.as_slice()),
             _ => return Err(Trouble::Line),
         }
         shown(alloc, &call)
