@@ -8,7 +8,7 @@ use Rattle.search_rules.specs.declared.ending.Turn.{Turn}
 use Rattle.search_rules.specs.declared.ending.Turn.TheVariants.{Rested, Endless}
 use Rattle.search_rules.specs.declared.ending.TurnError.{TurnError}
 use Rattle.search_rules.specs.declared.ending.TurnError.TheVariants.{Stopped, Memory}
-use Rattle.search_rules.specs.Machine.{Meaning, Rest, Work, Stage, resting, working, stuck, ended, start, IsDueAt, IsComplete}
+use Rattle.search_rules.specs.Machine.{Meaning, Rest, Work, Stage, resting, working, stuck, ended, start, IsDueAt, IsComplete, IsLegalLog}
 use Rattle.search_rules.specs.Depth.{IsDeep}
 use Rattle.search_rules.specs.Turns.{IsWideDue}
 
@@ -53,3 +53,7 @@ OneAnswer = (m : Meaning) (budget : ℕ) (xs ys : List Event) (r q : Result (Uni
 -- two logs in depth order of one length are the same, and come to one stage
 abbrev pub OneLog : Type 0
 OneLog = (m : Meaning) (t u : Stage) (xs ys : List Event) → IsDeep m (resting start) xs t → IsDeep m (resting start) ys u → length xs ≡ length ys → (xs ≡ ys) × (t ≡ u)
+
+-- one legal log, whatever its order, comes to one stage
+abbrev pub OneStage : Type 0
+OneStage = (m : Meaning) (log : List Event) (t u : Stage) → IsLegalLog m log t → IsLegalLog m log u → t ≡ u

@@ -1,7 +1,12 @@
 //! Laws of searches: what fixes their logs and their answers.
 
 ghost use Rattle.search_rules.specs.Answered.{AnswersOnce, OneAnswerOfLog};
-ghost use Rattle.search_rules.specs.Solved.{OneLog, OneAnswer};
+ghost use Rattle.search_rules.specs.Solved.{OneAnswer, OneLog, OneStage};
+
+/// One legal log, whatever its order, comes to one stage.
+pub fn one_stage()
+    ensures { OneStage }
+{}
 
 /// Two logs in depth order of one length are the same, and come to one stage.
 pub fn one_log()

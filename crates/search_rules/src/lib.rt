@@ -15,6 +15,6 @@ mod outcome;
 mod waiting;
 
 pub use ending::{Turn, TurnError};
-pub use laws::{answers_once, one_answer, one_answer_of_log, one_log};
+pub use laws::{answers_once, one_answer, one_answer_of_log, one_log, one_stage};
 pub use outcome::{Answer, Outcome};
 pub use waiting::{Best, Waiting};
