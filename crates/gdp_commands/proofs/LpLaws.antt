@@ -3,6 +3,7 @@ use Rattle.std.proofs.Common.{◌≡◌, ◌≢◌, ℕ, ℤ, pos, ◌*ℤ◌, �
 use Rattle.std.proofs.lemmas.Int.{ints}
 use Rattle.fractions.specs.Fraction.{Fraction}
 use Rattle.int_linear.proofs.Ring.{products, le_mul, le_cancel}
+use Rattle.answers.specs.declared.stop.Stop.TheVariants.{Wide}
 use Rattle.exact_simplex.specs.declared.log.Event.{Event}
 use Rattle.lp_answers.specs.declared.texts.LpTextError.{LpTextError}
 use Rattle.lp_answers.specs.declared.texts.LpTextError.TheVariants.{Value, Memory}
@@ -10,6 +11,7 @@ use Rattle.lp_answers.specs.Texts.{IsBestText, IsEndlessText}
 use Rattle.lp_grammar.specs.Reading.{LpValue}
 use Rattle.lp_grammar.specs.Spelling.{LpSpells, IsFirstBadOfLp}
 use Rattle.lp_reader.proofs.Ready.{spelled_is_milp}
+use Rattle.lp_rows.specs.declared.columns.WideAt.TheVariants as wide
 use Rattle.lp_rows.specs.Points.{PointValue}
 use Rattle.milp_nodes.specs.Nodes.{problem_of, milp_meaning}
 use Rattle.milps.specs.Milps.{MilpValue}
@@ -24,7 +26,7 @@ use Rattle.search_rules.specs.Problem.{words_of}
 use Rattle.gdp_commands.specs.declared.status.Status.{Status}
 use Rattle.gdp_commands.specs.declared.status.Status.TheVariants as status
 use Rattle.gdp_commands.specs.Lp.{BestSays, FoundSays, IsSearched, LpSays, Searched, SearchedSays, lp_refused_at}
-use Rattle.gdp_commands.specs.LpLaws.{IsBestPoint, IsPoint, IsRightText, LpSolvesTruly, goal_at}
+use Rattle.gdp_commands.specs.LpLaws.{IsBestPoint, IsPoint, IsRightText, IsStoppedText, LpGivesUpExactly, LpSolvesTruly, goal_at}
 use Rattle.gdp_commands.specs.LpLaws.IsRightText.{best, none, endless}
 use Rattle.gdp_commands.specs.Table.{Answer, For, Parsed}
 use Rattle.gdp_commands.proofs.ReadOnce.{within}
@@ -69,20 +71,53 @@ right_text p steps events (Endless at truths ray) written searched says =
     endless at ray (record { over = says.0; lower = searched.0 }) (rw says.1.2.1 says.1.1)
 right_text p steps events (Stopped stop) written searched says = absurd (done_is_no_give_up says.0)
 
-pub lp_solves_truly : LpSolvesTruly
-lp_solves_truly steps file contents written says =
-    let text = says.0 in
-    let other : status.Done ≢ status.Text = λ e. cc e in
+-- the search over the program that a text spells
+searched_of : (steps : ℕ) (file text : List ℕ) (s : Status) (written : List ℕ) → s ≢ status.Text → LpSays steps file text s written
+    → (p : LpValue) × LpSpells text p × For (IsSearched p.milp steps) (SearchedSays p) s written
+searched_of steps file text s written other says =
     let below : Answer = Parsed (IsFirstBadOfLp text) status.Text (lp_refused_at file) (LpSpells text) (λ p. For (IsSearched p.milp steps) (SearchedSays p)) in
-    let read = (within 8388608 file text below status.Done written other says.2).1 in
+    let read = (within 8388608 file text below s written other says).1 in
     elim read [
       | inl bad ↦ absurd (other bad.3.0)
-      | inr found ↦ record {
-        text = text;
-        behind = says.1;
-        program = found.0;
-        spelled = found.1;
-        named = (spelled_is_milp text found.0 found.1).1;
-        right = right_text found.0 steps found.2.0.events found.2.0.answer written found.2.1 found.2.2;
-      }
+      | inr found ↦ found
     ]
+
+pub lp_solves_truly : LpSolvesTruly
+lp_solves_truly steps file contents written says =
+    let found = searched_of steps file says.0 status.Done written (λ e. cc e) says.2 in
+    record {
+      text = says.0;
+      behind = says.1;
+      program = found.0;
+      spelled = found.1;
+      named = (spelled_is_milp says.0 found.0 found.1).1;
+      right = right_text found.0 steps found.2.0.events found.2.0.answer written found.2.1 found.2.2;
+    }
+
+-- ---- where it gives up
+gave_up_is_not_done : status.GaveUp ≢ status.Done
+gave_up_is_not_done e = cc e
+
+best_stops : (p : LpValue) (b : found.Best) (proof : List Node) (steps : ℕ) (events : List Event) (r : Result (List ℕ) LpTextError) (written : List ℕ) → IsSearched p.milp steps (record { events = events; answer = Done (Best b proof) })
+    → IsBestText p b.at r → BestSays events r status.GaveUp written → IsStoppedText steps p written
+best_stops p b proof steps events (Ok text) written searched is says = absurd (gave_up_is_not_done says.0)
+best_stops p b proof steps events (Err Value) written searched is says =
+    record { searched = record { events = events; answer = Done (Best b proof) }; is = searched; stop = Wide wide.Value; why = (is, refl); text = says.1 }
+best_stops p b proof steps events (Err Memory) written searched is says = absurd says
+
+stopped_text : (p : LpValue) (steps : ℕ) (events : List Event) (a : search.Answer) (written : List ℕ) → IsSearched p.milp steps (record { events = events; answer = a }) → FoundSays p events a status.GaveUp written → IsStoppedText steps p written
+stopped_text p steps events (Done (Best b proof)) written searched says = best_stops p b proof steps events says.0 written searched says.1 says.2
+stopped_text p steps events (Done (Empty proof)) written searched says = absurd (gave_up_is_not_done says.0)
+stopped_text p steps events (Endless at truths ray) written searched says = absurd (gave_up_is_not_done says.1.2.0)
+stopped_text p steps events (Stopped stop) written searched says = record { searched = record { events = events; answer = Stopped stop }; is = searched; stop = stop; why = refl; text = says.1 }
+
+pub lp_gives_up_exactly : LpGivesUpExactly
+lp_gives_up_exactly steps file contents written says =
+    let found = searched_of steps file says.0 status.GaveUp written (λ e. cc e) says.2 in
+    record {
+      text = says.0;
+      behind = says.1;
+      program = found.0;
+      spelled = found.1;
+      stopped = stopped_text found.0 steps found.2.0.events found.2.0.answer written found.2.1 found.2.2;
+    }
