@@ -1,5 +1,5 @@
 -- What a command answered is what was delivered, where the write did not fail.
-use Rattle.std.proofs.Common.{◌≡◌, ℕ, List, Option, Some, None, sym, subst}
+use Rattle.std.proofs.Common.{◌≡◌, ℕ, List, Option, Some, None, ◌⊎◌, inl, inr, sym, subst}
 use Rattle.std.specs.Prelude.{IfNone}
 use Rattle.gdp_commands.specs.declared.status.Status.{Status}
 use Rattle.gdp_commands.specs.declared.status.Status.TheVariants.{Done, No, Text, GaveUp, Rewrite, Read, Write, Words, Memory}
@@ -7,27 +7,27 @@ use Rattle.gdp_commands.specs.declared.words.Command.{Command}
 use Rattle.gdp_commands.specs.Statuses.{IsOut, IsRefused, IsWorked}
 use Rattle.gdp_commands.specs.Words.{Form}
 
+neither : ⊥ ⊎ ⊥ → ⊥
+neither (inl e) = e
+neither (inr e) = e
+
+-- where a text goes to `out` or is a refusal, the command came to its answer
+worked : (s : Status) → IsOut s ⊎ IsRefused s → IsWorked s
+worked Done e = tt
+worked No e = tt
+worked GaveUp e = tt
+worked Text e = tt
+worked Rewrite e = tt
+worked Read e = neither e
+worked Write e = neither e
+worked Words e = neither e
+worked Memory e = neither e
+
 pub out_worked : (s : Status) → IsOut s → IsWorked s
-out_worked Done o = tt
-out_worked No o = tt
-out_worked GaveUp o = tt
-out_worked Text o = absurd o
-out_worked Rewrite o = absurd o
-out_worked Read o = absurd o
-out_worked Write o = absurd o
-out_worked Words o = absurd o
-out_worked Memory o = absurd o
+out_worked s o = worked s (inl o)
 
 pub refused_worked : (s : Status) → IsRefused s → IsWorked s
-refused_worked Text r = tt
-refused_worked Rewrite r = tt
-refused_worked Done r = absurd r
-refused_worked No r = absurd r
-refused_worked GaveUp r = absurd r
-refused_worked Read r = absurd r
-refused_worked Write r = absurd r
-refused_worked Words r = absurd r
-refused_worked Memory r = absurd r
+refused_worked s r = worked s (inr r)
 
 pub refused_not_out : (s : Status) → IsRefused s → ¬ IsOut s
 refused_not_out Text r o = o

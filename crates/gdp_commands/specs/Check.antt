@@ -15,7 +15,7 @@ use Rattle.answer_checker.specs.Valid.{check_groups}
 use Rattle.answer_tests.specs.Groups.{first_error}
 use Rattle.gdp_commands.specs.declared.status.Status.TheVariants as status
 use Rattle.gdp_commands.specs.Compile.{RefusedSays}
-use Rattle.gdp_commands.specs.Messages.{line, too_long}
+use Rattle.gdp_commands.specs.Messages.{line, refused_for, too_long}
 use Rattle.gdp_commands.specs.Table.{Answer, FirstIf, Is, Parsed}
 use Rattle.gdp_commands.specs.Texts.{IsLong, IsLongAnswer, ModelSays}
 
@@ -28,7 +28,7 @@ spoilt_name cause.Shape = codes "Shape"
 
 -- the answer behind a name is refused at this line for this cause
 abbrev pub spoilt_at : List ℕ → ℕ → CertCause → List ℕ
-spoilt_at name number why = line (name ++ codes ": line " ++ decimal number ++ codes ": " ++ spoilt_name why)
+spoilt_at name number why = refused_for name number (spoilt_name why)
 
 -- the answer fails a test, at a line of the model or at a node of its proof
 abbrev pub rejected : List ℕ → List ℕ

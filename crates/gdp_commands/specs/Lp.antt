@@ -1,6 +1,5 @@
 -- What `lp STEPS FILE` answers for a text.
-use Rattle.std.specs.Prelude.{ℕ, pos, ◌<ℤ◌, List, ◌++◌, None, Result, Ok, Err, codes}
-use Rattle.std.specs.Fmt.{decimal}
+use Rattle.std.specs.Prelude.{ℕ, pos, ◌<ℤ◌, List, None, Result, Ok, Err, codes}
 use Rattle.answers.specs.declared.stop.Stop.{Stop}
 use Rattle.answers.specs.declared.stop.Stop.TheVariants.{Wide}
 use Rattle.exact_simplex.specs.declared.log.Event.{Event}
@@ -20,7 +19,7 @@ use Rattle.search_rules.specs.declared.outcome.Answer.TheVariants.{Done, Endless
 use Rattle.search_rules.specs.declared.outcome.Outcome.TheVariants.{Best, Empty}
 use Rattle.search_rules.specs.Answered.{IsAnswer}
 use Rattle.gdp_commands.specs.declared.status.Status.TheVariants as status
-use Rattle.gdp_commands.specs.Messages.{line, too_long}
+use Rattle.gdp_commands.specs.Messages.{refused_for, too_long}
 use Rattle.gdp_commands.specs.Table.{Answer, FirstIf, For, Is, Parsed}
 use Rattle.gdp_commands.specs.Texts.{IsLong}
 
@@ -34,7 +33,7 @@ lp_cause_name cause.Limit = codes "Limit"
 
 -- the LP text behind a name is refused at this line for this cause
 abbrev pub lp_refused_at : List ℕ → ℕ → LpCause → List ℕ
-lp_refused_at name number why = line (name ++ codes ": line " ++ decimal number ++ codes ": " ++ lp_cause_name why)
+lp_refused_at name number why = refused_for name number (lp_cause_name why)
 
 -- what a search over a program comes to: the events of its log, and its answer
 pub record Searched : Type 0 where

@@ -28,9 +28,13 @@ cause_name cause.Unclosed = codes "Unclosed"
 cause_name cause.Limit = codes "Limit"
 cause_name cause.Missing = codes "Missing"
 
--- the text behind a name is refused at this line for this cause
+-- the text behind a name is refused at this line for what is written behind it
+abbrev pub refused_for : List ℕ → ℕ → List ℕ → List ℕ
+refused_for name number why = line (name ++ codes ": line " ++ decimal number ++ codes ": " ++ why)
+
+-- the text of a model or of a point is refused for this cause
 abbrev pub refused_at : List ℕ → ℕ → ReadCause → List ℕ
-refused_at name number cause = line (name ++ codes ": line " ++ decimal number ++ codes ": " ++ cause_name cause)
+refused_at name number cause = refused_for name number (cause_name cause)
 
 -- the verdict on a point
 abbrev pub holds : List ℕ

@@ -14,14 +14,14 @@ use crate::status::Status;
 use crate::words::Size;
 use answers::{Claim, Route};
 use cert_writer::put_route;
-use fractions::Frac;
 use gdp_io::Text;
 use gdp_solve::{Reached, solve};
+use lp_answers::put_value;
 use model_maker::make_model;
 use model_tree::Model;
 use outcomes::Memory;
 use std::alloc::Global;
-use text_printer::{end_line, put_digits, put_natural, put_whole, put_word};
+use text_printer::{end_line, put_natural, put_word};
 
 /// Makes the model, solves it, and answers by what came of it.
 pub fn bench_command(
@@ -80,19 +80,6 @@ fn claim_line(alloc: Global, claim: &Claim) -> Result<Text, Memory>
         Claim::Empty { .. } => Text::from_slice(alloc, b"empty"),
         Claim::Endless { .. } => Text::from_slice(alloc, b"endless"),
     }
-}
-
-/// A blank and a value: `p`, or `p/q`.
-fn put_value(alloc: Global, text: &mut Text, value: Frac) -> Result<(), Memory>
-    ensures { OnOk result (text.new ≡ text.old ++ 32 ∷ value_word value) }
-{
-    put_whole(alloc, text, value.num())?;
-    let under = value.den().unsigned_abs();
-    if under == 1 {
-        return Ok(());
-    }
-    text.push(alloc, b'/')?;
-    put_digits(alloc, text, under)
 }
 
 /// Three lines: which model, which route, and what came of it.

@@ -18,7 +18,7 @@ ghost use Rattle.gdp_commands.specs.Words.Form.{Check};
 use crate::compile_command::refuse;
 use crate::fetched::{Fetched, fetch, fetch_answer};
 use crate::messages::make_line;
-use crate::replies::{Reply, read_failed, refuse_at};
+use crate::replies::{Reply, read_failed, refuse_at, refuse_for};
 use crate::status::Status;
 use answer_checker::{CheckError, check};
 use answer_texts::read_model_answer;
@@ -172,18 +172,7 @@ fn make_three(alloc: Global, first: &[u8], second: &[u8], number: u64) -> Result
 fn spoilt(alloc: Global, name: &str, line: u64, cause: CertCause) -> Result<Reply, Memory>
     ensures { IfOk result (λ reply. (reply.status ≡ Status.Text) × (text_of reply ≡ spoilt_at name.now line cause)) }
 {
-    let number = line.to_string(alloc)?;
-    let mut text = Text::new(alloc);
-    text.append(alloc, name.as_bytes())?;
-    text.append(alloc, b": line ")?;
-    text.append(alloc, number.as_bytes())?;
-    text.append(alloc, b": ")?;
-    text.append(alloc, cause_name(cause))?;
-    text.push(alloc, b'\n')?;
-    Ok(Reply {
-        status: Status::Text,
-        text,
-    })
+    refuse_for(alloc, name, line, cause_name(cause))
 }
 
 /// The name of a cause.

@@ -11,11 +11,11 @@ ghost use Rattle.gdp_commands.specs.Texts.{IsLong};
 ghost use Rattle.gdp_commands.specs.Words.Form.{Lp};
 
 use crate::fetched::{Fetched, fetch};
-use crate::replies::{Reply, read_failed};
+use crate::replies::{Reply, read_failed, refuse_for};
 use crate::status::Status;
 use answers::Stop;
 use exact_simplex::Log;
-use gdp_io::{Shelf, Text};
+use gdp_io::Shelf;
 use log_writer::log_text;
 use lp_answers::{LpTextError, best_text, empty_text, endless_text};
 use lp_grammar::LpCause;
@@ -118,18 +118,7 @@ fn stopped(alloc: Global, log: &Log, stop: Stop) -> Result<Reply, Memory>
 fn refuse_lp(alloc: Global, name: &str, line: u32, cause: LpCause) -> Result<Reply, Memory>
     ensures { IfOk result (λ reply. (reply.status ≡ Status.Text) × (text_of reply ≡ lp_refused_at name.now line cause)) }
 {
-    let number = line.to_string(alloc)?;
-    let mut text = Text::new(alloc);
-    text.append(alloc, name.as_bytes())?;
-    text.append(alloc, b": line ")?;
-    text.append(alloc, number.as_bytes())?;
-    text.append(alloc, b": ")?;
-    text.append(alloc, cause_name(cause))?;
-    text.push(alloc, b'\n')?;
-    Ok(Reply {
-        status: Status::Text,
-        text,
-    })
+    refuse_for(alloc, name, u64::from(line), cause_name(cause))
 }
 
 /// The name of a cause.

@@ -1,6 +1,6 @@
 //! What a command answers, and what it answers where a text is not read or is refused.
 ghost use Rattle.std.specs.Prelude.{◌≡◌, IfOk};
-ghost use Rattle.gdp_commands.specs.Messages.{cause_name, refused_at};
+ghost use Rattle.gdp_commands.specs.Messages.{cause_name, refused_at, refused_for};
 ghost use Rattle.gdp_commands.specs.Replies.{ReadFailed, text_of};
 
 use crate::messages::make_line;
@@ -34,9 +34,9 @@ fn name_of(cause: ReadCause) -> &'static [u8]
     }
 }
 
-/// What a command answers where the text behind a name is refused at a line.
-pub fn refuse_at(alloc: Global, name: &str, line: u32, cause: ReadCause) -> Result<Reply, Memory>
-    ensures { IfOk result (λ reply. (reply.status ≡ Status.Text) × (text_of reply ≡ refused_at name.now line cause)) }
+/// What a command answers where the text behind a name is refused at a line for what is written behind it.
+pub fn refuse_for(alloc: Global, name: &str, line: u64, why: &[u8]) -> Result<Reply, Memory>
+    ensures { IfOk result (λ reply. (reply.status ≡ Status.Text) × (text_of reply ≡ refused_for name.now line why.now)) }
 {
     let number = line.to_string(alloc)?;
     let mut text = Text::new(alloc);
@@ -44,12 +44,19 @@ pub fn refuse_at(alloc: Global, name: &str, line: u32, cause: ReadCause) -> Resu
     text.append(alloc, b": line ")?;
     text.append(alloc, number.as_bytes())?;
     text.append(alloc, b": ")?;
-    text.append(alloc, name_of(cause))?;
+    text.append(alloc, why)?;
     text.push(alloc, b'\n')?;
     Ok(Reply {
         status: Status::Text,
         text,
     })
+}
+
+/// What a command answers where the text of a model or of a point is refused at a line.
+pub fn refuse_at(alloc: Global, name: &str, line: u32, cause: ReadCause) -> Result<Reply, Memory>
+    ensures { IfOk result (λ reply. (reply.status ≡ Status.Text) × (text_of reply ≡ refused_at name.now line cause)) }
+{
+    refuse_for(alloc, name, u64::from(line), name_of(cause))
 }
 
 /// What a command answers where the text behind a name was not read.

@@ -12,4 +12,5 @@ pub mod points;
 pub mod texts;
 pub mod values;
 
+pub use lines::put_value;
 pub use texts::{LpTextError, best_text, empty_text, endless_text};

@@ -16,7 +16,7 @@ use std::alloc::Global;
 use text_printer::{end_line, put_digits, put_whole, put_word};
 
 /// A blank and a value: `p`, or `p/q`.
-pub(crate) fn put_value(alloc: Global, text: &mut Text, value: Frac) -> Result<(), Memory>
+pub fn put_value(alloc: Global, text: &mut Text, value: Frac) -> Result<(), Memory>
     ensures { OnOk result (text.new ≡ text.old ++ 32 ∷ value_word value) }
 {
     put_whole(alloc, text, value.num())?;
