@@ -1,9 +1,10 @@
 #!/usr/bin/env python3
 """Counts instructions, which other work beside it does not scatter: of a step beside an exchange, and where searches spend them.
 
-`instructions.py` runs the built programs under valgrind, which it needs, and prints two tables. The first has what a step of `solve
+`instructions.py` runs the built programs under valgrind, which it needs, and prints three tables. The first has what a step of `solve
 bigm` takes on plants, and what an exchange of `simplex_bench` takes at the first tableau of the same program. The second has the shares
-of a search's parts, by the functions that they are.
+of a search's parts, by the functions that they are. The third, which takes half an hour, has what a step takes in the first and in the
+last tenth of long searches.
 """
 
 import pathlib
@@ -19,6 +20,8 @@ from steps import MOVES, SEEDS, SIZES, standard_form
 COUNT = 20
 # The searches whose parts are told: route, seed, size, steps.
 SEARCHES = [("hull", 1, 20, 300_000), ("bigm", 1, 10, 20_000)]
+# The searches whose tenths are compared.
+LONG = [("bigm", 1, 15, 300_000), ("logic", 2, 20, 1_000_000)]
 # The parts of a search, by the functions that they are; the search itself is the first.
 PARTS = {
     "the whole search": "milp_branching::solving::solve_milp",
@@ -94,7 +97,21 @@ def parts(folder: pathlib.Path) -> None:
         print(f"| {name} | {' | '.join(told)} |")
 
 
+def tenths(folder: pathlib.Path) -> None:
+    """The table of the first and the last tenth of long searches."""
+    model = folder / "model"
+    print("\n| route | size, seed | steps | a step of the first tenth, instructions | of the last | first over last |")
+    print("|---|---|---|---|---|---|")
+    for route, seed, size, steps in LONG:
+        model.write_text(plants.text(seed, size))
+        budgets = (1, steps // 10, steps * 9 // 10, steps)
+        none, first, most, whole = (counted([PROGRAM, "solve", route, str(budget), str(model)]) for budget in budgets)
+        told = (first - none) / (steps // 10 - 1), (whole - most) / (steps - steps * 9 // 10)
+        print(f"| {route} | {size}, {seed} | {steps:,} | {told[0]:,.0f} | {told[1]:,.0f} | {told[0] / told[1]:.2f} |", flush=True)
+
+
 if __name__ == "__main__":
     with tempfile.TemporaryDirectory() as temporary:
         beside(pathlib.Path(temporary))
         parts(pathlib.Path(temporary))
+        tenths(pathlib.Path(temporary))

@@ -3,7 +3,9 @@
 
 `solvers.py [SVG]` prints a table: for each size the geometric means over five seeds, each the least processor time of so many
 turns. z3 gets the plant itself as SMT-LIB, and finds the exact optimum; cbc gets the LP text of `compile hull`, and computes with
-floating point. A solver that isn't installed is left out with a line. Where an optimum differs from ours, the script stops.
+floating point. The last two columns have `check` over `solve`, with the start of the program in both, and with what the program
+takes without a word taken off. A solver that isn't installed is left out with a line. Where an optimum differs from ours, the script
+stops.
 """
 
 import pathlib
@@ -20,8 +22,10 @@ from runs import PROGRAM, Run, in_turns, machine, mean, run
 SIZES = (6, 10, 15, 20)
 SEEDS = (1, 2, 3, 4, 5)
 TURNS = 2
+OWN_TURNS = 15
 STEPS = "1000000"
 SOLVERS = ("z3", "cbc")
+OWN = ("solve hull", "check", "start")
 COLOURS = {"solve hull": "#1f5fa8", "check": "#3a8f3a", "z3": "#b03a2e", "cbc": "#8e6c1f"}
 
 
@@ -32,7 +36,7 @@ def commands(folder: pathlib.Path, seed: int, size: int, solvers: list[str]) -> 
     pathlib.Path(script).write_text(plants.smt(seed, size))
     pathlib.Path(program).write_bytes(run([PROGRAM, "compile", "hull", model]).out)
     pathlib.Path(answer).write_bytes(run([PROGRAM, "solve", "hull", STEPS, model]).out)
-    told = {"solve hull": [PROGRAM, "solve", "hull", STEPS, model], "check": [PROGRAM, "check", model, answer]}
+    told = {"solve hull": [PROGRAM, "solve", "hull", STEPS, model], "check": [PROGRAM, "check", model, answer], "start": [PROGRAM]}
     told |= {"z3": ["z3", script]} if "z3" in solvers else {}
     return told | ({"cbc": ["cbc", program, "solve", "quit"]} if "cbc" in solvers else {})
 
@@ -93,22 +97,27 @@ def main(names: list[str]) -> None:
         print("" if name in solvers else f"{name} is left out, since it isn't installed\n", end="")
     shown = ["solve hull", "check", *solvers]
     means: dict[str, dict[int, float]] = {name: {} for name in shown}
-    print(f"{machine()}; geometric means of {len(SEEDS)} seeds, each the least processor time of {TURNS}\n")
-    print("| size | " + " | ".join(f"`{name}`, s" for name in shown) + " | " + " | ".join(f"ours over {name}" for name in solvers) + " | `check` over `solve` |")
-    print("|---" * (len(shown) + len(solvers) + 2) + "|")
+    print(f"{machine()}; geometric means of {len(SEEDS)} seeds, each the least processor time of {OWN_TURNS} turns, of the others' of {TURNS}\n")
+    print("| size | " + " | ".join(f"`{name}`, s" for name in shown) + " | " + " | ".join(f"ours over {name}" for name in solvers) + " | `check` over `solve` | without the start |")
+    print("|---" * (len(shown) + len(solvers) + 3) + "|")
     with tempfile.TemporaryDirectory() as folder:
         for size in SIZES:
             seconds: dict[str, list[float]] = {name: [] for name in shown}
+            without = []
             for seed in SEEDS:
-                runs = in_turns(commands(pathlib.Path(folder), seed, size, solvers), TURNS)
+                told = commands(pathlib.Path(folder), seed, size, solvers)
+                runs = in_turns({name: words for name, words in told.items() if name in OWN}, OWN_TURNS)
+                runs |= in_turns({name: words for name, words in told.items() if name not in OWN}, TURNS)
                 compare(runs, f"size {size}, seed {seed}")
                 for name in shown:
                     seconds[name].append(max(runs[name].busy, 1e-4))
+                start = runs["start"].busy
+                without.append(max(runs["check"].busy - start, 1e-6) / (runs["solve hull"].busy - start))
             for name in shown:
                 means[name][size] = mean(seconds[name])
             ours = means["solve hull"][size]
             cells = [f"{means[name][size]:.4f}" for name in shown] + [f"{ours / means[name][size]:.3f}" for name in solvers]
-            print(f"| {size} | {' | '.join(cells)} | {means['check'][size] / ours:.2f} |", flush=True)
+            print(f"| {size} | {' | '.join(cells)} | {means['check'][size] / ours:.2f} | {mean(without):.2f} |", flush=True)
     if names:
         pathlib.Path(names[0]).write_text(picture(means))
 
