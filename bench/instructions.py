@@ -1,18 +1,20 @@
 #!/usr/bin/env python3
 """Counts instructions, which other work beside it does not scatter: of a step beside an exchange, and where searches spend them.
 
-`instructions.py` runs the built programs under valgrind, which it needs, and prints three tables. The first has what a step of `solve
-bigm` takes on plants, and what an exchange of `simplex_bench` takes at the first tableau of the same program. The second has the shares
-of a search's parts, by the functions that they are. The third, which takes half an hour, has what a step takes in the first and in the
-last tenth of long searches.
+`instructions.py [TABLE]..` runs the built programs under valgrind, which it needs, and prints four tables, or those that are named.
+`beside` has what a step of `solve bigm` takes on plants, and what an exchange of `simplex_bench` takes at the first tableau of the same
+program. `parts` has the shares of a search's parts, by the functions that they are. `checks` has `check` beside the `solve hull` of its
+answer. `tenths`, which takes a quarter of an hour, has what a step takes in the first and in the last tenth of long searches.
 """
 
 import pathlib
 import re
 import subprocess
+import sys
 import tempfile
 
 import plants
+import solvers
 from runs import PROGRAM, mean, run
 from steps import MOVES, SEEDS, SIZES, standard_form
 
@@ -97,6 +99,25 @@ def parts(folder: pathlib.Path) -> None:
         print(f"| {name} | {' | '.join(told)} |")
 
 
+def checks(folder: pathlib.Path) -> None:
+    """The table of `check` beside the `solve hull` of its answer, with the start of the program in both and with it taken off."""
+    model, answer = folder / "model", folder / "answer"
+    start = counted([PROGRAM])
+    print("\n| size | `solve hull`, million instructions | `check` | `check` over `solve` | without the start |")
+    print("|---|---|---|---|---|")
+    for size in solvers.SIZES:
+        solves, tests = [], []
+        for seed in solvers.SEEDS:
+            model.write_text(plants.text(seed, size))
+            solve = [PROGRAM, "solve", "hull", solvers.STEPS, str(model)]
+            answer.write_bytes(run(solve).out)
+            solves.append(counted(solve))
+            tests.append(counted([PROGRAM, "check", str(model), str(answer)]))
+        over = mean([test / solve for test, solve in zip(tests, solves)])
+        without = mean([(test - start) / (solve - start) for test, solve in zip(tests, solves)])
+        print(f"| {size} | {mean(solves) / 1e6:.1f} | {mean(tests) / 1e6:.1f} | {over:.3f} | {without:.3f} |", flush=True)
+
+
 def tenths(folder: pathlib.Path) -> None:
     """The table of the first and the last tenth of long searches."""
     model = folder / "model"
@@ -110,8 +131,9 @@ def tenths(folder: pathlib.Path) -> None:
         print(f"| {route} | {size}, {seed} | {steps:,} | {told[0]:,.0f} | {told[1]:,.0f} | {told[0] / told[1]:.2f} |", flush=True)
 
 
+TABLES = {"beside": beside, "parts": parts, "checks": checks, "tenths": tenths}
+
 if __name__ == "__main__":
     with tempfile.TemporaryDirectory() as temporary:
-        beside(pathlib.Path(temporary))
-        parts(pathlib.Path(temporary))
-        tenths(pathlib.Path(temporary))
+        for table in sys.argv[1:] or TABLES:
+            TABLES[table](pathlib.Path(temporary))
