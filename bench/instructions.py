@@ -16,14 +16,15 @@ import tempfile
 import plants
 import solvers
 from runs import PROGRAM, mean, run
-from steps import MOVES, SEEDS, SIZES, standard_form
+from steps import MOVES, SIZES, standard_form
 
-# How often the moves over the first tableau are made.
+# The plants, and how often the moves over the first tableau are made.
+SEEDS = (1, 2, 3)
 COUNT = 20
 # The searches whose parts are told: route, seed, size, steps.
 SEARCHES = [("hull", 1, 20, 300_000), ("bigm", 1, 10, 20_000)]
 # The searches whose tenths are compared.
-LONG = [("bigm", 1, 15, 300_000), ("logic", 2, 20, 1_000_000)]
+LONG = [("bigm", 1, 15, 300_000), ("logic", 2, 20, 300_000)]
 # The parts of a search, by the functions that they are; the search itself is the first.
 PARTS = {
     "the whole search": "milp_branching::solving::solve_milp",

@@ -1,8 +1,8 @@
-//! The program `simplex_bench`: measures the exact simplex on a standard form in a file.
+//! The program `simplex_bench`: measures the exact simplex on standard forms in files.
 //!
-//! Its words are the file and a count. It makes Bland's moves from the slack basis once and prints each, the column that
-//! enters and the one that leaves, and then the answer; then it makes them as often again as the count says, so that the
-//! time of a count, less that of 0, is the moves' time alone.
+//! Its words are the files and a count. It makes Bland's moves from the slack basis of each form once and prints each, the
+//! column that enters and the one that leaves, and then the answer; then it goes through the forms as often again as the
+//! count says, so that the time of a count, less that of 0, is the moves' time alone.
 //!
 //! Read `problem.rt` for the file's form, then `replay.rt`.
 #![tactic(auto)]
@@ -27,19 +27,24 @@ const REFUSED: u8 = 1;
 /// The status where memory runs out.
 const MEMORY: u8 = 2;
 
-/// The standard form in the file that the first word names, and how often it is to be replayed.
-fn read_words(rt: &(impl Env + Files + AllocGlobal)) -> Result<(StandardForm, u32), BadProblem> {
+/// The standard forms in the files that the words before the last one name, and how often they are to be replayed.
+fn read_words(
+    rt: &(impl Env + Files + AllocGlobal),
+) -> Result<(Vec<StandardForm>, u32), BadProblem> {
     let mut words = Vec::new(rt.alloc());
     for word in env::args(rt)?.skip(1) {
         words.push(word)?;
     }
-    let [file, count] = words.as_slice() else {
+    let [files @ .., count] = words.as_slice() else {
         return Err(BadProblem::Refused);
     };
-    let text = fs::read_to_string(rt, file.as_str())?;
-    let form = read_problem(rt.alloc(), text.as_str())?;
     let count = count.parse::<u32>()?;
-    Ok((form, count))
+    let mut forms = Vec::new(rt.alloc());
+    for file in files {
+        let text = fs::read_to_string(rt, file.as_str())?;
+        forms.push(read_problem(rt.alloc(), text.as_str())?)?;
+    }
+    Ok((forms, count))
 }
 
 /// Prints the moves and the answer.
@@ -59,12 +64,16 @@ fn print(rt: &impl Print, replayed: &Replayed) -> io::Result<()> {
     }
 }
 
-/// Replays the form once and prints it, and then so often again.
+/// Replays each form once and prints it, and then all of them in turn so often again.
 fn measure(rt: &(impl Print + Env + Files + AllocGlobal)) -> Result<(), BadProblem> {
-    let (form, count) = read_words(rt)?;
-    print(rt, &replay(rt.alloc(), &form)?)?;
+    let (forms, count) = read_words(rt)?;
+    for form in &forms {
+        print(rt, &replay(rt.alloc(), form)?)?;
+    }
     for _ in 0..count {
-        replay(rt.alloc(), &form)?;
+        for form in &forms {
+            replay(rt.alloc(), form)?;
+        }
     }
     Ok(())
 }

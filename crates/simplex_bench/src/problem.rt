@@ -16,7 +16,7 @@ use std::str::SplitWhitespace;
 /// Why there is no standard form to measure.
 #[derive(Clone, Copy, Debug, PartialEq, Eq)]
 pub enum BadProblem {
-    /// The words are no file and count, the file can't be read, or its text is no standard form.
+    /// The words are no files and count, a file can't be read, or its text is no standard form.
     Refused,
     /// Memory ran out.
     Memory,
