@@ -15,6 +15,7 @@ use crate::exchange::{exchange_rows, read_unless_kept};
 use crate::first::{first_basis, first_rows};
 use crate::log::{Event, Log};
 use crate::moves::{Found, Move, Outcome};
+use crate::room::Room;
 use lp_frame::StandardForm;
 use lp_rows::WideAt;
 use outcomes::Memory;
@@ -38,6 +39,7 @@ pub struct Tableau {
     column: Row,
     kept: usize,
     started: bool,
+    room: Room,
 }
 
 impl Model for Tableau {
@@ -58,14 +60,27 @@ impl Tableau {
         ensures tableau { IfOk result (IsTableauOf standard.now) }
         ensures sound { IfOk result IsSound }
     {
+        Tableau::make_in(alloc, standard, Room::new(alloc))
+    }
+
+    /// The same, in the memory of the rows that the room has.
+    pub fn make_in(
+        alloc: Global,
+        standard: &StandardForm,
+        mut room: Room,
+    ) -> Result<Tableau, Memory>
+        ensures first { IfOk result (IsFirstTable standard.now) }
+        ensures tableau { IfOk result (IsTableauOf standard.now) }
+        ensures sound { IfOk result IsSound }
+    {
         let columns = standard.columns() as usize;
         let height = standard.rows().len();
-        let rows = first_rows(alloc, standard.rows(), standard.goal(), columns)?;
+        let rows = first_rows(alloc, standard.rows(), standard.goal(), columns, &mut room)?;
         let basis = first_basis(alloc, columns, height)?;
         let width = columns + height + 3;
-        let spare = Row::zeros(alloc, width)?;
-        let written = Row::zeros(alloc, width)?;
-        let column = Row::zeros(alloc, height + 1)?;
+        let spare = room.zeros(alloc, width)?;
+        let written = room.zeros(alloc, width)?;
+        let column = room.zeros(alloc, height + 1)?;
         narrow_rows(&rows);
         let words = height / 64 + 1;
         let mut index = vec![in alloc; 0u64; width * words]?;
@@ -82,7 +97,20 @@ impl Tableau {
             column,
             kept: width,
             started: false,
+            room,
         })
+    }
+
+    /// The memory of its rows, and what was left of the room that it was made in.
+    pub fn into_room(self) -> Room {
+        let mut room = self.room;
+        room.keep(self.column);
+        room.keep(self.written);
+        room.keep(self.spare);
+        for row in self.rows {
+            room.keep(row);
+        }
+        room
     }
 
     /// The move that Bland's rule names.

@@ -1,5 +1,5 @@
 -- What is read out of the tableau of a force.
-use Rattle.std.specs.Prelude.{◌≡◌, ℕ, ℤ, List, Result, Ok, Err}
+use Rattle.std.specs.Prelude.{ℕ, ℤ, List, Result, Ok, Err}
 use Rattle.lp_rows.specs.declared.columns.WideAt.{WideAt}
 use Rattle.lp_rows.specs.Points.{PointValue}
 use Rattle.lp_frame.specs.declared.force.Force.{Force}

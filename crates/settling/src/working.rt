@@ -13,21 +13,22 @@ use crate::deciding::settle;
 use crate::ending::{Ending, TestError, WorkError};
 use crate::nodes::Nodes;
 use answers::Stop;
-use exact_simplex::{Log, Move, Outcome, Tableau};
+use exact_simplex::{Log, Move, Outcome, Room, Tableau};
 use fractions::Frac;
 use lp_frame::{Force, standard};
 use lp_rows::Nums;
 use outcomes::Memory;
 use proof_tree::Path;
 use std::alloc::Global;
+use std::mem;
 
-// The first tableau of a force.
-fn first_of(alloc: Global, force: &Force) -> Result<Tableau, Memory>
+// The first tableau of a force, in a room.
+fn first_of(alloc: Global, force: &Force, room: Room) -> Result<Tableau, Memory>
     requires { is_bounded force.now ≡ true }
     ensures { IfOk result (IsFirstOf force.now) }
 {
     let form = standard(alloc, force)?;
-    Tableau::make(alloc, &form)
+    Tableau::make_in(alloc, &form, room)
 }
 
 // Runs the tableau.
@@ -132,6 +133,7 @@ fn work_with<N: Nodes>(
     best: Option<Frac>,
     steps: &mut u32,
     log: &mut Log,
+    room: &mut Room,
 ) -> Result<Ending, WorkError>
     requires ready { N.ready nodes.now path.now }
     requires dead { N.dead_of nodes.now path.now ≡ None }
@@ -140,19 +142,24 @@ fn work_with<N: Nodes>(
     ensures worked { Works None (record { force = force.now; loose = N.loose_of nodes.now path.now; test = N.test_of nodes.now path.now }) kept.now best steps.old steps.new log.old.events log.new.events result }
     ensures spare { log.new.spare + steps.old ≡ log.old.spare + steps.new }
 {
-    match first_of(alloc, force) {
+    let taken = mem::replace(room, Room::new(alloc));
+    match first_of(alloc, force, taken) {
         Err(_) => Err(WorkError::Memory),
-        Ok(mut tableau) => run_out(
-            alloc,
-            nodes,
-            path,
-            force,
-            &mut tableau,
-            kept,
-            best,
-            steps,
-            log,
-        ),
+        Ok(mut tableau) => {
+            let worked = run_out(
+                alloc,
+                nodes,
+                path,
+                force,
+                &mut tableau,
+                kept,
+                best,
+                steps,
+                log,
+            );
+            *room = tableau.into_room();
+            worked
+        }
     }
 }
 
@@ -165,6 +172,7 @@ fn work_alive<N: Nodes>(
     best: Option<Frac>,
     steps: &mut u32,
     log: &mut Log,
+    room: &mut Room,
 ) -> Result<Ending, WorkError>
     requires ready { N.ready nodes.now path.now }
     requires dead { N.dead_of nodes.now path.now ≡ None }
@@ -174,12 +182,13 @@ fn work_alive<N: Nodes>(
 {
     match nodes.force(alloc, path, kept.is_none()) {
         Err(_) => Err(WorkError::Memory),
-        Ok(force) => work_with(alloc, nodes, path, &force, kept, best, steps, log),
+        Ok(force) => work_with(alloc, nodes, path, &force, kept, best, steps, log, room),
     }
 }
 
 /// Works at a node until it settles or stops: the tableau of what holds there runs from its slack basis, each move
-/// takes a step and is logged, and the node settles by what is read out.
+/// takes a step and is logged, and the node settles by what is read out. The tableau is made in the room, and its
+/// memory goes back there.
 pub fn work<N: Nodes>(
     alloc: Global,
     nodes: &N,
@@ -188,6 +197,7 @@ pub fn work<N: Nodes>(
     best: Option<Frac>,
     steps: &mut u32,
     log: &mut Log,
+    room: &mut Room,
 ) -> Result<Ending, WorkError>
     requires ready { N.ready nodes.now path.now }
     requires room { steps.old ≤ log.old.spare }
@@ -197,6 +207,6 @@ pub fn work<N: Nodes>(
     match nodes.dead(path) {
         Err(_) => Err(WorkError::Memory),
         Ok(Some(item)) => Ok(Ending::LogicFalse(item)),
-        Ok(None) => work_alive(alloc, nodes, path, kept, best, steps, log),
+        Ok(None) => work_alive(alloc, nodes, path, kept, best, steps, log, room),
     }
 }

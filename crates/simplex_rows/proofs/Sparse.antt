@@ -305,9 +305,13 @@ entries_are w v columns entries s e =
     }
 
 -- a row of zeros
-pub numbers_zeros : (n : ℕ) → numbers n (λ j. pos 0) ≡ replicate n (pos 0)
+numbers_zeros : (n : ℕ) → numbers n (λ j. pos 0) ≡ replicate n (pos 0)
 numbers_zeros zero = refl
 numbers_zeros (suc n) = ap (λ xs. pos 0 ∷ xs) (numbers_zeros n)
+
+-- a row with no column
+pub numbers_none : (n : ℕ) (columns : List ℕ) (entries : List ℤ) → columns ≡ [] → numbers n (entry_in columns entries) ≡ replicate n (pos 0)
+numbers_none n columns entries e = subst (λ cs. numbers n (entry_in cs entries) ≡ replicate n (pos 0)) (sym e) (numbers_zeros n)
 
 -- a mark that is known of the places
 pub marked_by : (small : Bool) (entries : List ℤ) → IsNarrowRow (at entries) → (IsTrue small ↔ ((k : ℕ) → k < length entries → unsigned_abs (at entries k) < 2 ^ 62)) → IsMarked small (at entries)

@@ -22,7 +22,7 @@ use std::marker::Model;
 use std::mem;
 
 /// A row of narrow numbers, which contracts see as a list. It keeps the columns in which it has an entry other than 0,
-/// ascending, and beside them these entries, in room for every column. A mark on it says that all are below 2^62, so
+/// ascending, and beside them these entries, in room for every column and some more. A mark on it says that all are below 2^62, so
 /// that no step of two such rows has to be tested for width.
 #[derive(Drop)]
 pub struct Row {
@@ -43,18 +43,39 @@ impl Model for Row {
 }
 
 impl Row {
-    /// A row of zeros.
+    /// A row of zeros. It takes room for an eighth more columns and eight.
+    #[tactic(auto, using(crate::proofs::Sparse::numbers_none))]
     pub fn zeros(alloc: Global, width: usize) -> Result<Row, Memory>
         requires { width < 4294967296 }
         ensures { IfOk result (λ row. row ≡ replicate width (pos 0)) }
     {
-        let columns = Vec::with_capacity(alloc, width)?;
-        let entries = Vec::with_capacity(alloc, width)?;
+        let room = width + width / 8 + 8;
+        let columns = Vec::with_capacity(alloc, room)?;
+        let entries = Vec::with_capacity(alloc, room)?;
         Ok(Row {
             width,
             lists: Lists { columns, entries },
             small: true,
         })
+    }
+
+    /// A row of zeros, in the memory of this row where that has room for every column.
+    #[tactic(auto, using(crate::proofs::Sparse::numbers_none))]
+    pub fn cleared(self, alloc: Global, width: usize) -> Result<Row, Memory>
+        requires { width < 4294967296 }
+        ensures { IfOk result (λ row. row ≡ replicate width (pos 0)) }
+    {
+        let mut lists = self.lists;
+        if width <= lists.room() {
+            lists.columns.clear();
+            lists.entries.clear();
+            return Ok(Row {
+                width,
+                lists,
+                small: true,
+            });
+        }
+        Row::zeros(alloc, width)
     }
 
     /// The columns in which the row has an entry other than 0, ascending.

@@ -9,7 +9,7 @@ use Rattle.exact_simplex.proofs.Sound.{whole_written}
 use Rattle.lp_frame.specs.declared.force.AtMost.{AtMost}
 use Rattle.exact_simplex.specs.steps.FirstRows.{AreFirst, IsFirstBasis}
 use Rattle.exact_simplex.proofs.FirstTable.{first_tableau, first_sound, made, made_first, made_shape}
-use Rattle.exact_simplex.proofs.tableau.Tableau.make.Goals as goal
+use Rattle.exact_simplex.proofs.tableau.Tableau.make_in.Goals as goal
 
 -- of the same rows and goal
 first_of_same : (columns : ℕ) (rows rest : List AtMost) (goal same : List (ℕ × ℤ)) (now : List (List ℤ)) → rows ≡ rest → goal ≡ same → AreFirst columns rows goal now → AreFirst columns rest same now
