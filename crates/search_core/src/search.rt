@@ -14,7 +14,7 @@ ghost use Rattle.search_rules.specs.Turns.{meaning_of, failure_of, HasTurned};
 
 use crate::board::Board;
 use answers::Stop;
-use exact_simplex::{Event, Log};
+use exact_simplex::{Event, Log, Room};
 use outcomes::Memory;
 use proof_tree::Proof;
 use search_rules::{Best, Outcome, Turn, TurnError, Waiting};
@@ -31,13 +31,14 @@ pub trait Promising: Nodes {
     ghost allowed: { (me : Self) (path : List Half) → IsAllowed (problem me) path → Self.ready me path };
 }
 
-/// A search.
+/// A search. Its room keeps the memory of a node's tableau for the next node's.
 #[derive(Drop)]
 pub struct Search<N> {
     nodes: N,
     board: Board,
     steps: u32,
     log: Log,
+    room: Room,
 }
 
 impl<N: Promising + Drop> Search<N> {
@@ -56,6 +57,7 @@ impl<N: Promising + Drop> Search<N> {
             board,
             steps,
             log,
+            room: Room::new(alloc),
         })
     }
 }
@@ -85,6 +87,7 @@ impl<N: Promising> Search<N> {
             value,
             &mut self.steps,
             &mut self.log,
+            &mut self.room,
         ) {
             Err(error) => Err(failure(error)),
             Ok(ending) => match self.board.settle(alloc, half, number, ending) {
