@@ -1,0 +1,13 @@
+//! Numbers as bytes.
+//!
+//! Its contract in one sentence: a number is appended as the bytes of a prefix code, one byte where it is small, and bytes
+//! that begin with it give it back with what follows.
+//!
+//! Read `specs/Packed.antt`, then `push.rt` and `read.rt`.
+#![tactic(auto)]
+
+mod push;
+mod read;
+
+pub use push::{push_natural, push_number};
+pub use read::{read_natural, read_number, reads_again};
