@@ -41,7 +41,7 @@ pub fn push_natural(bytes: &mut Vec<u8>, number: u64) -> Result<(), Memory>
 }
 
 // A whole number as a natural one, with the sign as the lowest bit.
-fn fold(number: i128) -> u128
+pub(crate) fn fold(number: i128) -> u128
     ensures { result ≡ folded number }
 {
     if number < 0 {

@@ -35,7 +35,7 @@ pub fn read_natural(bytes: &[u8]) -> (u64, &[u8])
 }
 
 // The whole number that is folded so.
-fn unfold(number: u128) -> i128
+pub(crate) fn unfold(number: u128) -> i128
     ensures { result ≡ unfolded number }
 {
     let half = (number / 2) as i128;
