@@ -3,6 +3,7 @@ use Rattle.std.specs.Prelude.{◌≡◌, ℕ, ℤ, Bool, true, false, List, [], 
 use Rattle.proof_tree.specs.declared.path.Split.{Split}
 use Rattle.proof_tree.specs.declared.path.Split.TheVariants as split
 use Rattle.proof_tree.specs.declared.path.Half.{Half}
+use Rattle.milp_forces.specs.declared.track.Step.{Step}
 use Rattle.milp_forces.specs.Forces.{low_at, high_at}
 
 -- what a table has for column j, none past its end
@@ -29,7 +30,12 @@ stood (split.Int c k) true p = low_at p c
 stood (split.Int c k) false p = high_at p c
 stood (split.Truth id) second p = None
 
--- what stood before each half of the path
-abbrev pub all_stood : List Half → List (Option ℤ)
-all_stood [] = []
-all_stood (h ∷ p) = stood h.split h.second p ∷ all_stood p
+-- each half of the path with what stood before it
+abbrev pub steps_of : List Half → List Step
+steps_of [] = []
+steps_of (h ∷ p) = record { half = h; before = stood h.split h.second p } ∷ steps_of p
+
+-- the halves of steps
+abbrev pub halves_of : List Step → List Half
+halves_of [] = []
+halves_of (s ∷ ss) = s.half ∷ halves_of ss

@@ -1,12 +1,13 @@
 //! A path that keeps the tightest bounds that it sets, and its truths.
 
-ghost use Rattle.std.specs.Prelude.{◌≡◌, ◌<◌, ℕ, ℤ, List, [], ◌∷◌, Option, OnOk, OnErr, IfOk, length, nat_eq, reverse, if◌then◌else◌};
+ghost use Rattle.std.specs.Prelude.{◌≡◌, ◌<◌, ℕ, List, [], ◌∷◌, OnOk, OnErr, IfOk, IsSome, length, nat_eq, if◌then◌else◌};
 ghost use Rattle.proof_tree.specs.declared.path.Half.{Half};
 ghost use Rattle.proof_tree.specs.Paths.{after_leaf, popped, rest_of};
 ghost use Rattle.milp_forces.specs.Forces.{low_at, high_at};
-ghost use Rattle.milp_forces.specs.Trails.{kept, stood, all_stood, truths_of, with_truth, AreKept};
+ghost use Rattle.milp_forces.specs.Trails.{kept, stood, truths_of, with_truth, AreKept};
 
 use crate::force::{lowered, raised};
+use crate::track::{Step, Track};
 use outcomes::Memory;
 use proof_tree::{Half, Path, Split};
 use std::alloc::Global;
@@ -15,26 +16,26 @@ use std::marker::Model;
 /// A path with the tightest bounds that it sets for each column, which are changed half by half, and with its halves of
 /// Booleans apart; clauses see the path.
 ///
-/// It takes memory by its length and by the greatest column that it splits.
+/// It takes memory by the greatest column that it splits, and by its length: a few bytes a half, and more a half of a
+/// Boolean.
 #[derive(Drop)]
 pub struct Trail {
-    path: Path,
+    track: Track,
     truths: Path,
-    before: Vec<Option<i128>>,
     lows: Vec<Option<i128>>,
     highs: Vec<Option<i128>>,
 }
 
 impl Model for Trail {
-    ghost use Rattle.std.specs.Prelude.{◌≡◌, List, reverse};
+    ghost use Rattle.std.specs.Prelude.{◌≡◌, List};
     ghost use Rattle.proof_tree.specs.declared.path.Half.{Half};
-    ghost use Rattle.milp_forces.specs.Trails.{all_stood, truths_of, AreKept};
+    ghost use Rattle.milp_forces.specs.Trails.{halves_of, steps_of, truths_of, AreKept};
 
     ghost Value = { List Half };
 
-    ghost view = { λ t. t.path };
+    ghost view = { λ t. halves_of t.track };
 
-    ghost invariant = { λ t. (t.truths ≡ truths_of t.path) × (reverse t.before.items ≡ all_stood t.path) × AreKept t.lows.items t.highs.items t.path };
+    ghost invariant = { λ t. (t.truths ≡ truths_of (halves_of t.track)) × (t.track ≡ steps_of (halves_of t.track)) × AreKept t.lows.items t.highs.items (halves_of t.track) };
 }
 
 impl Trail {
@@ -43,9 +44,8 @@ impl Trail {
         ensures { result ≡ [] }
     {
         Trail {
-            path: Path::new(alloc),
+            track: Track::new(alloc),
             truths: Path::new(alloc),
-            before: Vec::new(alloc),
             lows: Vec::new(alloc),
             highs: Vec::new(alloc),
         }
@@ -72,50 +72,56 @@ impl Trail {
         at(&self.highs, column)
     }
 
-    /// Appends a half.
+    /// Appends a half; a refused one changes nothing.
     pub fn push(&mut self, half: Half) -> Result<(), Memory>
-        ensures { OnOk result (self.new ≡ half ∷ self.old) }
+        ensures ok { OnOk result (self.new ≡ half ∷ self.old) }
+        ensures err { OnErr result (self.new ≡ self.old) }
     {
-        if self.before.reserve(1).is_err() {
-            return Err(Memory);
-        }
-        self.path.push(half)?;
+        let before = self.stood(half);
+        self.track.push(Step { half, before })?;
         if push_truth(&mut self.truths, half).is_err() {
-            let _half = self.path.pop();
+            let _step = self.track.pop();
             return Err(Memory);
         }
-        match set(&mut self.lows, &mut self.highs, half) {
-            Ok(before) => {
-                self.before.push_reserved(before);
-                Ok(())
-            }
-            Err(memory) => {
-                pop_truth(&mut self.truths, half);
-                let _half = self.path.pop();
-                Err(memory)
+        if set(&mut self.lows, &mut self.highs, half).is_err() {
+            pop_truth(&mut self.truths, half);
+            let _step = self.track.pop();
+            return Err(Memory);
+        }
+        Ok(())
+    }
+
+    // The bound of a half's column, on its side.
+    fn stood(&self, half: Half) -> Option<i128>
+        ensures { result ≡ stood half.split half.second self.now }
+    {
+        match half.split {
+            Split::Truth { id: _ } => None,
+            Split::Int { column, at: _ } => {
+                if half.second {
+                    self.low(column)
+                } else {
+                    self.high(column)
+                }
             }
         }
     }
 
     /// Takes the last half away; None where there is none.
-    pub fn pop(&mut self) -> Result<Option<Half>, Memory>
-        ensures { IfOk result (λ half. popped self.old half self.new) }
+    pub fn pop(&mut self) -> Option<Half>
+        ensures { popped self.old result self.new }
     {
-        let Some(half) = self.path.last() else {
-            return Ok(None);
-        };
-        let before = last(&self.before);
-        reset(&mut self.lows, &mut self.highs, half, before)?;
-        pop_truth(&mut self.truths, half);
-        let _before = self.before.pop();
-        Ok(self.path.pop())
+        let step = self.track.pop()?;
+        reset(&mut self.lows, &mut self.highs, step);
+        pop_truth(&mut self.truths, step.half);
+        Some(step.half)
     }
 
     /// Goes on to the node after a leaf here, or to the root where there is none.
     pub fn advance(&mut self) -> Result<(), Memory>
         ensures { OnOk result (self.new ≡ rest_of (after_leaf self.old)) }
     {
-        'halves: while let Some(half) = self.pop()? {
+        'halves: while let Some(half) = self.pop() {
             if !half.second {
                 return self.push(Half {
                     split: half.split,
@@ -160,16 +166,6 @@ fn at(table: &[Option<i128>], column: u32) -> Option<i128>
     }
 }
 
-// What stood before the last half.
-fn last(before: &[Option<i128>]) -> Option<i128>
-    ensures { (n : Option ℤ) (ns : List (Option ℤ)) → reverse before.now ≡ n ∷ ns → result ≡ n }
-{
-    match before.last() {
-        Some(number) => *number,
-        None => None,
-    }
-}
-
 // Makes room for a column.
 fn grow(table: &mut Vec<Option<i128>>, column: u32) -> Result<(), Memory>
     ensures room { OnOk result (column < length table.new.items) }
@@ -191,49 +187,51 @@ fn put(table: &mut Vec<Option<i128>>, column: u32, number: Option<i128>) -> Resu
     Ok(())
 }
 
-// Sets the bound of a half, and answers what stood before.
+// Sets the bound of a half; a refused call changes no column's.
 fn set(
     lows: &mut Vec<Option<i128>>,
     highs: &mut Vec<Option<i128>>,
     half: Half,
-) -> Result<Option<i128>, Memory>
-    ensures ok { (p : List Half) → AreKept lows.old.items highs.old.items p → IfOk result (λ before. (before ≡ stood half.split half.second p) × AreKept lows.new.items highs.new.items (half ∷ p)) }
-    ensures err { (p : List Half) → AreKept lows.old.items highs.old.items p → OnErr result (AreKept lows.new.items highs.new.items p) }
-{
-    match half.split {
-        Split::Truth { id: _ } => Ok(None),
-        Split::Int { column, at: _ } => {
-            if half.second {
-                let before = at(lows, column);
-                put(lows, column, raised(half.split, true, column, before))?;
-                Ok(before)
-            } else {
-                let before = at(highs, column);
-                put(highs, column, lowered(half.split, false, column, before))?;
-                Ok(before)
-            }
-        }
-    }
-}
-
-// Sets what stood before a half.
-fn reset(
-    lows: &mut Vec<Option<i128>>,
-    highs: &mut Vec<Option<i128>>,
-    half: Half,
-    before: Option<i128>,
 ) -> Result<(), Memory>
-    ensures ok { (p : List Half) → AreKept lows.old.items highs.old.items (half ∷ p) → before ≡ stood half.split half.second p → OnOk result (AreKept lows.new.items highs.new.items p) }
+    ensures ok { (p : List Half) → AreKept lows.old.items highs.old.items p → OnOk result (AreKept lows.new.items highs.new.items (half ∷ p)) }
     ensures err { (p : List Half) → AreKept lows.old.items highs.old.items p → OnErr result (AreKept lows.new.items highs.new.items p) }
 {
     match half.split {
         Split::Truth { id: _ } => Ok(()),
         Split::Int { column, at: _ } => {
             if half.second {
-                put(lows, column, before)
+                let before = at(lows, column);
+                put(lows, column, raised(half.split, true, column, before))
             } else {
-                put(highs, column, before)
+                let before = at(highs, column);
+                put(highs, column, lowered(half.split, false, column, before))
             }
         }
+    }
+}
+
+// Sets what stood before a half.
+fn reset(lows: &mut [Option<i128>], highs: &mut [Option<i128>], step: Step)
+    ensures { (p : List Half) → AreKept lows.old highs.old (step.half ∷ p) → step.before ≡ stood step.half.split step.half.second p → AreKept lows.new highs.new p }
+{
+    match step.half.split {
+        Split::Truth { id: _ } => {}
+        Split::Int { column, at: _ } => {
+            if step.half.second {
+                put_back(lows, column, step.before);
+            } else {
+                put_back(highs, column, step.before);
+            }
+        }
+    }
+}
+
+// Puts a number in the place of a column's, where there is one.
+fn put_back(table: &mut [Option<i128>], column: u32, number: Option<i128>)
+    ensures { IsSome (kept table.old column) → (j : ℕ) → kept table.new j ≡ (if nat_eq column j then number else kept table.old j) }
+{
+    let column = column as usize;
+    if column < table.len() {
+        table[column] = number;
     }
 }
