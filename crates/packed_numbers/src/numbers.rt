@@ -30,6 +30,13 @@ impl<'a> Numbers<'a> {
         Numbers { bytes }
     }
 
+    /// The same numbers, to be read apart from here.
+    pub fn again(&self) -> Numbers<'a>
+        ensures { result ≡ self.now }
+    {
+        Numbers { bytes: self.bytes }
+    }
+
     /// Whether none is left.
     pub fn is_empty(&self) -> bool
         ensures { result ≡ (length self.now == 0) }
