@@ -89,3 +89,15 @@ pub unfolds_narrow : (n : ℕ) → FitsSigned w128 (unfolded n) → n < 2 ^ 128
 unfolds_narrow n h = even_or_odd n
     (λ k e. let f = (rw (unfolds_even k n e) at h).sfits in omega (arith, f))
     (λ k e. let f = (rw (unfolds_odd k n e) at h).sfits in omega (arith, f))
+
+-- what is left is shorter, or as long where nothing was
+pub natural_leaves : (bytes : List ℕ) → length (natural_in bytes).1 ≤ length bytes
+natural_leaves [] = omega arith
+natural_leaves (b ∷ bs) = by_size b
+    (λ low. rw (lt-ltb b 128 low) (omega arith))
+    (λ high. rw (le-ltb b 128 high) (let l = natural_leaves bs in omega arith))
+
+pub natural_takes : (b : ℕ) (bs : List ℕ) → length (natural_in (b ∷ bs)).1 ≤ length bs
+natural_takes b bs = by_size b
+    (λ low. rw (lt-ltb b 128 low) (omega arith))
+    (λ high. rw (le-ltb b 128 high) (natural_leaves bs))

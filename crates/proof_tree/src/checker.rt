@@ -11,6 +11,7 @@ ghost use Rattle.proof_tree.specs.Checks.{verdict, AreSound};
 use crate::path::{Half, Path};
 use crate::proof::{Node, Proof};
 use lp_rows::WideAt;
+use outcomes::Memory;
 use std::alloc::Global;
 
 /// Why a node fails.
@@ -36,6 +37,17 @@ pub enum CheckError {
     },
     /// Memory ran out.
     Memory,
+}
+
+impl From<Memory> for CheckError {
+    ghost use Rattle.std.specs.Prelude.{◌≡◌};
+    ghost use Rattle.proof_tree.specs.declared.checker.CheckError.{CheckError};
+
+    ghost from_gives = { λ _ error. error ≡ CheckError.Memory };
+
+    fn from(_error: Memory) -> CheckError {
+        CheckError::Memory
+    }
 }
 
 /// The tests of a proof's nodes.
@@ -66,8 +78,9 @@ pub fn check<T: Tests>(tests: &T, proof: &Proof, alloc: Global) -> Result<(), Ch
 {
     let mut path = Path::new(alloc);
     let mut number: u64 = 0;
-    for node in proof.nodes() {
-        match tests.test(&path, node) {
+    let mut nodes = proof.nodes();
+    'nodes: while let Some(node) = nodes.next(alloc)? {
+        match tests.test(&path, &node) {
             Ok(()) => {}
             Err(cause) => return Err(CheckError::At {
                 node: number,
@@ -79,7 +92,7 @@ pub fn check<T: Tests>(tests: &T, proof: &Proof, alloc: Global) -> Result<(), Ch
             Node::Split(split) => {
                 if path
                     .push(Half {
-                        split: *split,
+                        split,
                         second: false,
                     })
                     .is_err()

@@ -5,14 +5,19 @@
 //! every point is as they claim.
 //!
 //! Read `path.rt` with `specs/Paths.antt` for splits, halves and paths; `proof.rt` with `specs/Tree.antt` for which lists
-//! are proofs; `checker.rt` with `specs/Checks.antt` for what the walk answers. The walk keeps one path and takes memory
+//! are proofs; `list.rt` with `specs/Lists.antt` and `specs/Packing.antt` for how a list of nodes is kept as bytes, which
+//! `pack.rt` writes and `unpack.rt` reads; `checker.rt` with `specs/Checks.antt` for what the walk answers. The walk keeps one path and takes memory
 //! by depth alone.
 #![tactic(auto)]
 
 mod checker;
+mod list;
+mod pack;
 mod path;
 mod proof;
+mod unpack;
 
 pub use checker::{Cause, CheckError, Tests, check};
+pub use list::{NodeList, Nodes};
 pub use path::{Half, Path, Split};
 pub use proof::{Node, Proof};
