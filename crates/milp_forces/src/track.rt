@@ -1,13 +1,11 @@
 //! The halves of a path, each with what stood before it, kept as bytes.
 
-ghost use Rattle.std.specs.Prelude.{◌≡◌, ◌∷◌, ◌++◌, [], List, MatchOption, OnOk, OnErr, length, reverse, take, is_some};
+ghost use Rattle.std.specs.Prelude.{◌≡◌, ◌∷◌, ◌++◌, [], MatchOption, OnOk, OnErr, length, reverse, take};
 ghost use Rattle.milp_forces.specs.Tracks.{
   ArePacked,
   BeforeFits,
   SplitFits,
   before_in,
-  bit,
-  is_on_truth,
   packed_before,
   packed_split,
   packed_step,

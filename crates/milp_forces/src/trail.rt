@@ -1,6 +1,6 @@
 //! A path that keeps the tightest bounds that it sets, and its truths.
 
-ghost use Rattle.std.specs.Prelude.{◌≡◌, ◌<◌, ℕ, List, [], ◌∷◌, OnOk, OnErr, IfOk, IsSome, length, nat_eq, if◌then◌else◌};
+ghost use Rattle.std.specs.Prelude.{◌≡◌, ◌<◌, ℕ, List, [], ◌∷◌, OnOk, OnErr, IsSome, length, nat_eq, if◌then◌else◌};
 ghost use Rattle.proof_tree.specs.declared.path.Half.{Half};
 ghost use Rattle.proof_tree.specs.Paths.{after_leaf, popped, rest_of};
 ghost use Rattle.milp_forces.specs.Forces.{low_at, high_at};
@@ -16,8 +16,8 @@ use std::marker::Model;
 /// A path with the tightest bounds that it sets for each column, which are changed half by half, and with its halves of
 /// Booleans apart; clauses see the path.
 ///
-/// It takes memory by the greatest column that it splits, and by its length: a few bytes a half, and more a half of a
-/// Boolean.
+/// It takes memory by the greatest column that it splits, and by its length: a few bytes for each half, and a `Half`
+/// more for each of a Boolean.
 #[derive(Drop)]
 pub struct Trail {
     track: Track,
