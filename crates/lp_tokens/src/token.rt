@@ -254,6 +254,13 @@ impl<'a> Tokens<'a> {
         }
     }
 
+    /// The same tokens once more.
+    pub fn again(&self) -> Tokens<'a>
+        ensures { result ≡ self.now }
+    {
+        Tokens { bytes: self.bytes }
+    }
+
     /// Takes the first of the tokens that are left.
     pub fn next(&mut self) -> Option<Token<'a>>
         ensures { MatchOption result ((self.old ≡ []) × (self.new ≡ [])) (λ t. self.old ≡ piece t ∷ self.new) }
