@@ -6,8 +6,8 @@ ghost use Rattle.lp_grammar.specs.Items.{colon_first, colon_next};
 ghost use Rattle.lp_grammar.specs.Tokens.{tokens_of};
 ghost use Rattle.lp_tokens.specs.Views.{piece, is_colon_piece};
 
+use crate::line::first_line;
 use crate::token::{Token, Tokens};
-use text_reader::first_line;
 
 /// Whether the token is a colon.
 pub fn is_colon(token: Token<'_>) -> bool
