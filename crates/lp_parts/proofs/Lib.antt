@@ -1,4 +1,5 @@
 pub mod Gathered
 pub mod Grown
 pub mod KeptTerms
+pub mod Listed
 pub mod Scaled

@@ -6,3 +6,4 @@ pub mod Lined
 pub mod Ready
 pub mod Room
 pub mod Told
+pub mod Unbarred

@@ -24,7 +24,7 @@ use Rattle.lp_grammar.specs.declared.stage.Stage.TheVariants.{Before, Goal, Goal
 use Rattle.lp_grammar.specs.declared.cause.LpCause.{LpCause}
 use Rattle.lp_grammar.specs.declared.cause.LpCause.TheVariants as cause
 use Rattle.lp_grammar.specs.Programs.{most_cols}
-use Rattle.lp_grammar.specs.Items.{Item, Opens, Has, plain_items, section_of, are_constraints, with_section as section_with, opening_word, opening_of, items_with, items_of, colon_first, colon_next}
+use Rattle.lp_grammar.specs.Items.{Opens, Has, plain_items, section_of, are_constraints, with_section as section_with, opening_word, opening_of, items_with, items_of, colon_first, colon_next}
 use Rattle.lp_grammar.specs.Reading.{with_number, closed, col_of, with_section, with_token, with_line}
 use Rattle.lp_grammar.specs.Taking.{Taken, nothing_taken, new_column, note_if, with_constant, with_name, place_from, column_at, column_of, is_out}
 use Rattle.lp_grammar.specs.Tokens.{Token, Name, Number, Sign, Compare, Colon, Barred, Stray, token_of, without_comment, tokens_of}
@@ -108,11 +108,8 @@ opening_shorter (Colon ∷ ts) = tt
 opening_shorter (Barred ∷ ts) = tt
 opening_shorter (Stray ∷ ts) = tt
 
-pub opened_shorter : (line : List ℕ) (s : Section) (rest : List Token) → Some (s, rest) ≡ opening_of (tokens_of line) → suc (length rest) ≤ length line
-opened_shorter line s rest e =
-    let shorter = subst (λ (o : Option (Section × List Token)). OpensShorter (length (tokens_of line)) o) (sym e) (opening_shorter (tokens_of line)) in
-    let few = tokens_few line in
-    omega (arith, shorter, few)
+opened_shorter : (ts : List Token) (s : Section) (rest : List Token) → Some (s, rest) ≡ opening_of ts → suc (length rest) ≤ length ts
+opened_shorter ts s rest e = subst (λ (o : Option (Section × List Token)). OpensShorter (length ts) o) (sym e) (opening_shorter ts)
 
 items_with_few : (ts : List Token) (o : Option (Section × List Token)) (next : Bool) → OpensShorter (length ts) o → length (items_with ts o next) ≤ length ts
 items_with_few ts None next k = omega (arith, plain_length ts next)
@@ -129,26 +126,23 @@ items_few line next =
     omega (arith, few, tokens)
 
 -- ---- room at each step
-pub plain_ready : (m : ℕ) (line : List ℕ) (next : Bool) (items : List Item) (t : Taken) → items ≡ plain_items (tokens_of line) next → IsReady m (length line) t → IsReady m (length items) t
-plain_ready m line next items t e r = fewer m (length line) (length items) t (omega (arith, tokens_few line, ap (λ (l : List Item). length l) e, plain_length (tokens_of line) next)) r
+pub tokens_ready : (m : ℕ) (line : List ℕ) (ts : List Token) (t : Taken) → ts ≡ tokens_of line → IsReady m (length line) t → IsReady m (length ts) t
+tokens_ready m line ts t e r = fewer m (length line) (length ts) t (omega (arith, tokens_few line, ap (λ (l : List Token). length l) e)) r
 
-pub section_ready : (m : ℕ) (line : List ℕ) (s : Section) (rest : List Token) (t : Taken) → Some (s, rest) ≡ opening_of (tokens_of line) → IsReady m (length line) t → IsReady m 1 t
-section_ready m line s rest t e r = fewer m (length line) 1 t (omega (arith, opened_shorter line s rest e)) r
+pub section_ready : (m : ℕ) (ts : List Token) (s : Section) (rest : List Token) (t : Taken) → Some (s, rest) ≡ opening_of ts → IsReady m (length ts) t → IsReady m 1 t
+section_ready m ts s rest t e r = fewer m (length ts) 1 t (omega (arith, opened_shorter ts s rest e)) r
 
-pub after_section : (m : ℕ) (line : List ℕ) (s : Section) (rest : List Token) (next fits : Bool) (items : List Item) (t u : Taken) → Some (s, rest) ≡ opening_of (tokens_of line) → items ≡ plain_items rest next → fits ≡ true
-    → IsReady m (length line) t → Leaves u fits (with_section t s) → IsReady m (length items) u
-after_section m line s rest next false items t u e f g r leaves = absurd (cc g)
-after_section m line s rest next true items t u e f g r leaves =
-    let count : length items ≡ length rest = ap (λ (l : List Item). length l) f ∙ plain_length rest next in
-    item_ready m (length items) t (Opens s) (Some u) u (fewer m (length line) (suc (length items)) t (omega (arith, count, opened_shorter line s rest e)) r) leaves refl
+pub after_section : (m : ℕ) (ts : List Token) (s : Section) (rest : List Token) (fits : Bool) (t u : Taken) → Some (s, rest) ≡ opening_of ts → fits ≡ true → IsReady m (length ts) t → Leaves u fits (with_section t s) → IsReady m (length rest) u
+after_section m ts s rest false t u e g r leaves = absurd (cc g)
+after_section m ts s rest true t u e g r leaves = item_ready m (length rest) t (Opens s) (Some u) u (fewer m (length ts) (suc (length rest)) t (opened_shorter ts s rest e) r) leaves refl
 
-pub before_token : (m : ℕ) (t : Taken) (i : Item) (left rest : List Item) → left ≡ i ∷ rest → IsReady m (length left) t → IsReady m 1 t
-before_token m t i left rest e r = fewer m (length left) 1 t (omega (arith, ap (λ (l : List Item). length l) e)) r
+pub before_token : (m : ℕ) (t : Taken) (token : Token) (left rest : List Token) → left ≡ token ∷ rest → IsReady m (length left) t → IsReady m 1 t
+before_token m t token left rest e r = fewer m (length left) 1 t (omega (arith, ap (λ (l : List Token). length l) e)) r
 
-pub after_token : (m : ℕ) (t u : Taken) (token : Token) (l fits : Bool) (left rest : List Item) → left ≡ Has token l ∷ rest → fits ≡ true → IsReady m (length left) t → Leaves u fits (with_token t t.stage token l) → IsReady m (length rest) u
+pub after_token : (m : ℕ) (t u : Taken) (token : Token) (l fits : Bool) (left rest : List Token) → left ≡ token ∷ rest → fits ≡ true → IsReady m (length left) t → Leaves u fits (with_token t t.stage token l) → IsReady m (length rest) u
 after_token m t u token l false left rest e g r leaves = absurd (cc g)
 after_token m t u token l true left rest e g r leaves =
-    item_ready m (length rest) t (Has token l) (Some u) u (fewer m (length left) (suc (length rest)) t (omega (arith, ap (λ (x : List Item). length x) e)) r) leaves refl
+    item_ready m (length rest) t (Has token l) (Some u) u (fewer m (length left) (suc (length rest)) t (omega (arith, ap (λ (x : List Token). length x) e)) r) leaves refl
 
 pub before_line : (m : ℕ) (t : Taken) (line : List ℕ) (all rest : List (List ℕ)) → all ≡ line ∷ rest → IsReady m (bytes_in all) t → IsReady m (length line) t
 before_line m t line all rest e r = fewer m (bytes_in all) (length line) t (omega (arith, ap bytes_in e)) r

@@ -16,8 +16,8 @@ ghost use Rattle.lp_reader.specs.Taken.{taken_of};
 use crate::program::LpFile;
 use crate::taking::Taking;
 use lp_grammar::LpCause;
+use lp_tokens::first_line;
 use std::alloc::Global;
-use text_reader::first_line;
 
 /// Why an LP text is no program.
 #[derive(Clone, Copy, Debug, PartialEq, Eq)]

@@ -1,5 +1,6 @@
 pub mod Digits
 pub mod Far
+pub mod FirstBytes
 pub mod Lowest
 pub mod Made
 pub mod Moved

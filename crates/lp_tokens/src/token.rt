@@ -18,7 +18,8 @@ ghost use Rattle.lp_grammar.specs.Tokens.{
 };
 ghost use Rattle.lp_tokens.specs.Views.{exponent, numeral, piece};
 
-use crate::bytes::{Content, NameBytes, begins_name};
+use crate::bytes::{NameBytes, begins_name};
+use crate::line::without_comment;
 use lp_rows::Rel;
 use std::marker::Model;
 use text_reader::{Blanks, Digits, split_front};
@@ -250,8 +251,15 @@ impl<'a> Tokens<'a> {
         ensures { result ≡ tokens_of line.now }
     {
         Tokens {
-            bytes: split_front::<Content>(line).0,
+            bytes: without_comment(line),
         }
+    }
+
+    /// The same tokens once more.
+    pub fn again(&self) -> Tokens<'a>
+        ensures { result ≡ self.now }
+    {
+        Tokens { bytes: self.bytes }
     }
 
     /// Takes the first of the tokens that are left.
