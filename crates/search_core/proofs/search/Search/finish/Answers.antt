@@ -1,5 +1,5 @@
 use Rattle.std.proofs.Common.{◌≡◌, ◌∙◌, [], refl, sym, ap, subst}
-use Rattle.proof_tree.specs.Tree.{preorder, IsProofList}
+use Rattle.proof_tree.specs.Tree.{IsProofList}
 use Rattle.search_rules.specs.Machine.{tree_of, value_of}
 use Rattle.search_rules.specs.Problem.{words_of}
 use Rattle.search_rules.specs.Turns.{meaning_of}

@@ -1,5 +1,5 @@
-use Rattle.std.proofs.Common.{◌≡◌, ◌∙◌, ap, sym, subst, Ok, Err, arith, length}
-use Rattle.search_rules.specs.Machine.{Meaning, resting, IsLegalLog}
+use Rattle.std.proofs.Common.{◌∙◌, sym, subst, Ok, Err, arith}
+use Rattle.search_rules.specs.Machine.{Meaning, IsLegalLog}
 use Rattle.search_core.specs.Boards.{rest_of}
 use Rattle.search_rules.specs.Searching.{IsUnderWay}
 use Rattle.search_core.specs.Boards.{searching_of}
