@@ -103,14 +103,14 @@ fn claim_text(alloc: Global, answer: &Answer) -> Result<String, Trouble> {
             let (num, den) = (value.num(), value.den());
             let point = point_text(alloc, at)?;
             let truths = truths_text(alloc, truths.as_slice())?;
-            let nodes = proof.nodes().len();
+            let nodes = proof.len();
             let text = format!(in alloc;
                 "{route:?} best {num}/{den} at {point} with {truths} by {nodes}"
             )?;
             Ok(text)
         }
         Claim::Empty { proof } => {
-            let nodes = proof.nodes().len();
+            let nodes = proof.len();
             let text = format!(in alloc; "{route:?} empty by {nodes}")?;
             Ok(text)
         }

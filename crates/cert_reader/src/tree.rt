@@ -11,7 +11,7 @@ ghost use Rattle.proof_tree.specs.Tree.{is_listed};
 use crate::fault::LineFault;
 use cert_grammar::CertCause;
 use cert_lines::{NodeRead, Words, read_node};
-use proof_tree::{Node, Proof};
+use proof_tree::{Node, NodeList, Proof};
 use std::alloc::Global;
 use std::marker::Model;
 
@@ -19,7 +19,7 @@ use std::marker::Model;
 #[derive(Drop)]
 pub struct TreeRead {
     halves: u64,
-    nodes: Vec<Node>,
+    nodes: NodeList,
     ended: bool,
 }
 
@@ -29,9 +29,9 @@ impl Model for TreeRead {
 
     ghost Value = { TreeTaken };
 
-    ghost view = { λ t. record { halves = t.halves; nodes = t.nodes.items; ended = t.ended } };
+    ghost view = { λ t. record { halves = t.halves; nodes = t.nodes; ended = t.ended } };
 
-    ghost invariant = { λ t. IsGrown t.nodes.items t.halves t.ended };
+    ghost invariant = { λ t. IsGrown t.nodes t.halves t.ended };
 }
 
 // How many halves are open behind a node, if they can be counted.
@@ -68,7 +68,7 @@ impl TreeRead {
     {
         TreeRead {
             halves: 1,
-            nodes: Vec::new(alloc),
+            nodes: NodeList::new(alloc),
             ended: false,
         }
     }
@@ -105,10 +105,9 @@ impl TreeRead {
         let Some(halves) = opened(&node, self.halves - 1) else {
             return Err(LineFault::Memory);
         };
-        if self.nodes.reserve(1).is_err() {
+        if self.nodes.push(&node).is_err() {
             return Err(LineFault::Memory);
         }
-        self.nodes.push_reserved(node);
         self.halves = halves;
         self.ended = false;
         Ok(())

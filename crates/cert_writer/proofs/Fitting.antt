@@ -1,5 +1,5 @@
 -- What is written fits, and the nodes of a proof may stand in an answer.
-use Rattle.std.proofs.Common.{◌≡◌, ℕ, ◌+◌, ◌^◌, ◌<◌, ◌≤◌, ℤ, pos, negsuc, ◌≤ℤ◌, Bool, true, false, not, ◌&&◌, ◌||◌, List, length, take, get_or, refl, ap, sym, ◌∙◌, arith, FitsSigned}
+use Rattle.std.proofs.Common.{◌≡◌, ℕ, ◌+◌, ◌^◌, ◌<◌, ◌≤◌, ℤ, pos, negsuc, ◌≤ℤ◌, Bool, true, false, not, ◌&&◌, ◌||◌, List, [], ◌∷◌, length, take, get_or, refl, ap, sym, ◌∙◌, arith, FitsSigned}
 use Rattle.std.specs.Prelude.{nat_lt}
 use Rattle.std.specs.Int.{w128}
 use Rattle.std.specs.List.{list_all}
@@ -61,14 +61,12 @@ pairs_more xs k d before lt fit = front_more pair_fits xs k d before lt fit
 pub pairs_all : (xs : List (ℕ × ℤ)) (k : ℕ) → are_short (take k xs) ≡ true → length xs ≤ k → are_short xs ≡ true
 pairs_all xs k before le = front_all pair_fits xs k before le
 
-pub nodes_start : (xs : List Node) → list_all node_fits (take 0 xs) ≡ true
-nodes_start xs = refl
+-- what fits behind a node that fits, where all fit that are left
+pub node_fit : (all more : List Node) (n : Node) (rest : Bool) → list_all node_fits all ≡ rest → all ≡ n ∷ more → node_fits n ≡ true → list_all node_fits more ≡ rest
+node_fit all more n rest h e fit = let a = rw (e, fit) at h in a
 
-pub nodes_more : (xs : List Node) (k : ℕ) (d : Node) → list_all node_fits (take k xs) ≡ true → k < length xs → node_fits (get_or xs k d) ≡ true → list_all node_fits (take (k + 1) xs) ≡ true
-nodes_more xs k d before lt fit = front_more node_fits xs k d before lt fit
-
-pub nodes_all : (xs : List Node) (k : ℕ) → list_all node_fits (take k xs) ≡ true → length xs ≤ k → list_all node_fits xs ≡ true
-nodes_all xs k before le = front_all node_fits xs k before le
+pub all_fit : (whole left : List Node) → list_all node_fits left ≡ list_all node_fits whole → left ≡ [] → list_all node_fits whole ≡ true
+all_fit whole left h e = let a = rw e at h in sym a
 
 -- a proof may stand in an answer
 pub proof_list : (ns : List Node) → IsProofList ns → list_all node_fits ns ≡ true → IsFittingProof ns

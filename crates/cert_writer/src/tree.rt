@@ -14,7 +14,7 @@ ghost use Rattle.cert_writer.specs.Parts.{words_text, tree_part};
 use crate::word::put_signed;
 use gdp_io::Text;
 use outcomes::Memory;
-use proof_tree::{Node, Proof, Split};
+use proof_tree::{Node, Nodes, Proof, Split};
 use std::alloc::Global;
 use text_printer::{end_line, put_natural, put_whole};
 
@@ -85,13 +85,14 @@ fn put_node(alloc: Global, text: &mut Text, node: &Node) -> Result<(), Memory>
 }
 
 // A line for each node, and the end.
-#[tactic(auto, using(crate::proofs::Fitting::nodes_start, crate::proofs::Fitting::nodes_more, crate::proofs::Fitting::nodes_all))]
-fn put_nodes(alloc: Global, text: &mut Text, nodes: &[Node]) -> Result<(), Memory>
-    ensures text { OnOk result (text.new ≡ text.old ++ words_text (tree_lines nodes.now)) }
-    ensures fits { OnOk result (list_all node_fits nodes.now ≡ true) }
+#[tactic(auto, using(crate::proofs::Fitting::node_fit, crate::proofs::Fitting::all_fit))]
+fn put_nodes(alloc: Global, text: &mut Text, nodes: Nodes<'_>) -> Result<(), Memory>
+    ensures text { OnOk result (text.new ≡ text.old ++ words_text (tree_lines nodes.entry)) }
+    ensures fits { OnOk result (list_all node_fits nodes.entry ≡ true) }
 {
-    for node in nodes {
-        put_node(alloc, text, node)?;
+    let mut left = nodes;
+    'nodes: while let Some(node) = left.next(alloc)? {
+        put_node(alloc, text, &node)?;
         end_line(alloc, text)?;
     }
     text.append(alloc, b"end\n")

@@ -37,11 +37,11 @@ next_allowed s least p (node.Refuted ms) a h = after_allowed s p a
 next_allowed s least p (node.Bounded scale ms) a h = after_allowed s p a
 next_allowed s least p (node.LogicFalse item) a h = after_allowed s p a
 
-pub goes_on : (test : List Half → Node → Result (Unit {0}) Cause) (k : ℕ) (p : List Half) (ns : List Node) (i : ℕ) (n : Node) (v : Result (Unit {0}) CheckError) → i < length ns → n ≡ get_or ns i n
-    → test p n ≡ Ok tt → verdict test k (walk p (drop i ns)) ≡ v → verdict test (k + 1) (walk (rest_of (next_path p n)) (drop (i + 1) ns)) ≡ v
-goes_on test k p ns i n v h e t w = let a = rw t at (verdict_at test k p ns i n h e) in sym a ∙ w
+pub goes_on : (test : List Half → Node → Result (Unit {0}) Cause) (k : ℕ) (p : List Half) (all ns : List Node) (n : Node) (v : Result (Unit {0}) CheckError) → all ≡ n ∷ ns
+    → test p n ≡ Ok tt → verdict test k (walk p all) ≡ v → verdict test (k + 1) (walk (rest_of (next_path p n)) ns) ≡ v
+goes_on test k p all ns n v e t w = let a = rw t at (verdict_at test k p all ns n e) in sym a ∙ w
 
-pub ends : (test : List Half → Node → Result (Unit {0}) Cause) (k : ℕ) (p : List Half) (ns : List Node) (i : ℕ) (n : Node) (e : NodeError) (refusal : CheckError) (v w : Result (Unit {0}) CheckError) → i < length ns → n ≡ get_or ns i n
-    → Tells (Err e) (test p n) → Refuses k e refusal → verdict test k (walk p (drop i ns)) ≡ v → v ≡ w → OrMemory refused.Memory (Err refusal) w
-ends test k p ns i n (error.Fails cause) refusal v w h e t r q z = inl (ap Err r ∙ fails_here test k p ns i n cause v h e (sym t) q ∙ z)
-ends test k p ns i n error.Memory refusal v w h e t r q z = inr (ap Err r)
+pub ends : (test : List Half → Node → Result (Unit {0}) Cause) (k : ℕ) (p : List Half) (all ns : List Node) (n : Node) (e : NodeError) (refusal : CheckError) (v w : Result (Unit {0}) CheckError) → all ≡ n ∷ ns
+    → Tells (Err e) (test p n) → Refuses k e refusal → verdict test k (walk p all) ≡ v → v ≡ w → OrMemory refused.Memory (Err refusal) w
+ends test k p all ns n (error.Fails cause) refusal v w h t r q z = inl (ap Err r ∙ fails_here test k p all ns n cause v h (sym t) q ∙ z)
+ends test k p all ns n error.Memory refusal v w h t r q z = inr (ap Err r)

@@ -31,8 +31,9 @@ pub fn check_nodes<T: Tested>(
 {
     let mut trail = Trail::new(alloc);
     let mut number: u64 = 0;
-    for node in proof.nodes() {
-        match test_node(alloc, tested, least, &trail, node) {
+    let mut nodes = proof.nodes();
+    'nodes: while let Some(node) = nodes.next(alloc)? {
+        match test_node(alloc, tested, least, &trail, &node) {
             Ok(()) => {}
             Err(error) => return Err(refusal(number, error)),
         }
@@ -55,12 +56,12 @@ fn refusal(node: u64, error: NodeError) -> CheckError
 }
 
 // Goes on from a node's path to that of the next node.
-fn step(trail: &mut Trail, node: &Node) -> Result<(), Memory>
-    ensures { OnOk result (trail.new ≡ rest_of (next_path trail.old node.now)) }
+fn step(trail: &mut Trail, node: Node) -> Result<(), Memory>
+    ensures { OnOk result (trail.new ≡ rest_of (next_path trail.old node)) }
 {
     match node {
         Node::Split(split) => trail.push(Half {
-            split: *split,
+            split,
             second: false,
         }),
         _ => trail.advance(),

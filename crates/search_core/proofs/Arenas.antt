@@ -203,6 +203,10 @@ pub leaf_goes_on : (ss : List Slot) (k : ℕ) (ks : List ℕ) (l : leaves.Leaf) 
     → (done ++ node ∷ []) ++ pending ss ks ≡ all
 leaf_goes_on ss k ks l node done all a i e n h = rw n (append_assoc done (leaf_of (closure_of l) ∷ []) (pending ss ks) ∙ ap (λ xs. done ++ xs) (sym (pending_leaf ss k ks l a i.0 e)) ∙ h)
 
+pub open_goes_on : (ss : List Slot) (k : ℕ) (ks : List ℕ) (done all : List Node) → IsArena ss → AreInside ss (k ∷ ks) → get_or ss k Open ≡ Open → done ++ pending ss (k ∷ ks) ≡ all
+    → (done ++ Refuted [] ∷ []) ++ pending ss ks ≡ all
+open_goes_on ss k ks done all a i e h = append_assoc done (Refuted [] ∷ []) (pending ss ks) ∙ ap (λ xs. done ++ xs) (sym (pending_open ss k ks a i.0 e)) ∙ h
+
 pub shorter : (done all rest : List Node) (x : Node) → (done ++ x ∷ []) ++ rest ≡ all → (length all - length (done ++ x ∷ [])) < (length all - length done)
 shorter done all rest x h =
     let e : length all ≡ length (done ++ x ∷ []) + length rest = rw (← h) (length-append (done ++ x ∷ []) rest) in

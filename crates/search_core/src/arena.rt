@@ -1,13 +1,13 @@
 //! The nodes made so far, by number.
 
-ghost use Rattle.std.specs.Prelude.{◌≡◌, ◌+◌, ◌<◌, ◌^◌, ◌∷◌, [], length, OnOk, OnErr, IfOk, Some, slice_get};
+ghost use Rattle.std.specs.Prelude.{◌≡◌, ◌+◌, ◌<◌, ◌^◌, ◌∷◌, ◌++◌, [], length, OnOk, OnErr, IfOk, Some, slice_get};
 ghost use Rattle.proof_tree.specs.Tree.{preorder, leaf_of};
 ghost use Rattle.search_rules.specs.Machine.{put, leaf_node, fork_node, open_node, tree_of};
 ghost use Rattle.search_core.specs.Arena.{draft_of, closure_of, IsArena, StaysOpen};
 
 use lp_frame::Mults;
 use outcomes::Memory;
-use proof_tree::{Node, Split};
+use proof_tree::{Node, NodeList, Split};
 use std::alloc::Global;
 
 /// What closes a leaf.
@@ -91,19 +91,19 @@ impl Arena {
     }
 
     /// The nodes in preorder, in a copy.
-    pub fn preorder(&self, alloc: Global) -> Result<Vec<Node>, Memory>
+    pub fn preorder(&self, alloc: Global) -> Result<NodeList, Memory>
         requires { 0 < length self.now.slots.items }
-        ensures { IfOk result (λ nodes. nodes.items ≡ preorder (tree_of (draft_of self.now.slots.items))) }
+        ensures { IfOk result (λ nodes. nodes ≡ preorder (tree_of (draft_of self.now.slots.items))) }
     {
-        let mut nodes = Vec::new(alloc);
+        let mut nodes = NodeList::new(alloc);
         let mut stack = Vec::new(alloc);
         stack.push(0)?;
         'nodes: while let Some(number) = stack.pop() {
             match &self.slots[number] {
-                Slot::Open => nodes.push(Node::Refuted(Mults::new(alloc)))?,
-                Slot::Leaf(leaf) => nodes.push(node_of(alloc, leaf)?)?,
+                Slot::Open => append(&mut nodes, Node::Refuted(Mults::new(alloc)))?,
+                Slot::Leaf(leaf) => append(&mut nodes, node_of(alloc, leaf)?)?,
                 Slot::Fork { split, first } => {
-                    nodes.push(Node::Split(*split))?;
+                    append(&mut nodes, Node::Split(*split))?;
                     stack.push(*first + 1)?;
                     stack.push(*first)?;
                 }
@@ -111,6 +111,13 @@ impl Arena {
         }
         Ok(nodes)
     }
+}
+
+// Appends a node, which is let go.
+fn append(nodes: &mut NodeList, node: Node) -> Result<(), Memory>
+    ensures { OnOk result (nodes.new ≡ nodes.old ++ node ∷ []) }
+{
+    nodes.push(&node)
 }
 
 // The node of a leaf, with copies of its multipliers.

@@ -5,4 +5,4 @@ use Rattle.cert_reader.proofs.tree.TreeRead.into_proof.Goals as goal
 
 pub unreachable-requires : goal.unreachable-requires
 unreachable-requires c =
-    c.in-Err.ensures.not (grown_proof c.self.inside.nodes.items c.self.inside.halves c.self.inside.ended c.self.invariant (ap (λ (t : TreeTaken). t.ended) c.self.view_is ∙ c.requires))
+    c.in-Err.ensures.not (grown_proof c.self.inside.nodes c.self.inside.halves c.self.inside.ended c.self.invariant (ap (λ (t : TreeTaken). t.ended) c.self.view_is ∙ c.requires))

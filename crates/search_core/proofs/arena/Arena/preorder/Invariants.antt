@@ -9,8 +9,8 @@ use Rattle.search_core.proofs.arena.Arena.preorder.Given as goal
 abbrev pub invariant-nodes : goal.invariant-nodes
 invariant-nodes l = record {
   inside : AreInside l.self.slots.items (reverse l.stack.items);
-  rest : l.nodes.items ++ pending l.self.slots.items (reverse l.stack.items) ≡ preorder (tree_of (draft_of l.self.slots.items));
+  rest : l.nodes ++ pending l.self.slots.items (reverse l.stack.items) ≡ preorder (tree_of (draft_of l.self.slots.items));
 }
 
 abbrev pub decreases-nodes : goal.decreases-nodes
-decreases-nodes l = length (preorder (tree_of (draft_of l.self.slots.items))) - length l.nodes.items
+decreases-nodes l = length (preorder (tree_of (draft_of l.self.slots.items))) - length l.nodes
