@@ -3,8 +3,9 @@
 
 `lp_reading.py [PROGRAM]` writes the model that `measure.py` reads and LP texts of three layouts into a temporary folder: rows on
 lines, as planners and other programs write them, fractions among them, and a term a line, as `compile` writes them. With
-one step a search gives up before its first move, so that `lp` reads, makes the program and its first tableau, and writes a log. Each command is run twenty times, in turns;
-told are the least processor time, and how much each takes a byte of its text beside `format`.
+one step a search gives up before its first move, so that `lp` reads, makes the program and its first tableau, and writes a log.
+Each text is read once more with a last line that is refused, so that `lp` does nothing but read. Each command is run twenty times,
+in turns; told are the least processor time, and how much each takes a byte of its text beside `format`.
 """
 
 import os
@@ -45,8 +46,10 @@ def main(named):
         commands, sizes = {FORM: [program, "format", "full.gdp"]}, {FORM: os.path.getsize(os.path.join(folder, "full.gdp"))}
         for at, (name, lines) in enumerate(texts.items()):
             pathlib.Path(folder, f"{at}.lp").write_bytes(lines)
-            told = f"`gdp lp 1` of {name}"
-            commands[told], sizes[told] = [program, "lp", "1", f"{at}.lp"], len(lines)
+            pathlib.Path(folder, f"{at}.refused.lp").write_bytes(lines + b"x\n")
+            for kind, file in (("", f"{at}.lp"), (", refused at the end", f"{at}.refused.lp")):
+                told = f"`gdp lp 1` of {name}{kind}"
+                commands[told], sizes[told] = [program, "lp", "1", file], len(lines)
         runs = {name: [] for name in commands}
         for _ in range(TURNS):
             for name, command in commands.items():
