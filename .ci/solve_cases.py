@@ -216,7 +216,7 @@ def commands():
         Case("check: out: a full device", check, files, 6, FULL, b"write fault\n"),
         Case("check: out: a full device, rejected", check, {"M": SMALL, "A": ANSWER.replace(b"best 3", b"best 4")}, 6, FULL, b"write fault\n"),
         Case("memory: too little to solve", solve, {"M": largest}, 8, err=b"out of memory\n", room=24 * 2**20, is_long=True),
-        Case("memory: too little to check", check, {"M": TWO, "A": deep}, 8, err=b"out of memory\n", room=24 * 2**20, is_long=True),
+        Case("memory: too little to check", check, {"M": TWO, "A": deep}, 8, err=b"out of memory\n", room=12 * 2**20, is_long=True),
     ]
 
 
